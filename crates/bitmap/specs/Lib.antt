@@ -1,0 +1,5 @@
+-- What a bitmap is, and the laws by which all above this crate know it.
+pub mod Sizes
+pub mod Bits
+pub mod Blocks
+pub mod Majority

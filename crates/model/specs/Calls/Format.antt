@@ -1,0 +1,27 @@
+-- Format. "Format writes all 386 words in one call: m, then zeros."
+use Prim.Native.Nat.{ℕ}
+use mathlib.Core.Option.{Option}
+use mathlib.Core.List.{List, [], _∷_}
+use lib.ListN.{replicate}
+use Rattle.bitmap.specs.Sizes.{bitmapWords}
+use Rattle.model.specs.Types.{Error, Answer, DiskLength, BlocksRange}
+use Rattle.model.specs.Errors.{first, _⇒_, unlessRefused}
+use Rattle.model.specs.Answers.{done}
+use Rattle.model.specs.Causes.{diskLengthWrong, blocksOutOfRange}
+
+unfoldable pub formatError : List ℕ → ℕ → Option Error
+formatError disk blocks =
+    first
+    (diskLengthWrong disk ⇒ DiskLength
+    ∷ blocksOutOfRange blocks ⇒ BlocksRange
+    ∷ [])
+
+-- m, then 385 zeros
+unfoldable pub formatted : ℕ → List ℕ
+formatted blocks = blocks ∷ replicate 385 0
+
+unfoldable pub formatAnswer : List ℕ → ℕ → Answer
+formatAnswer disk blocks = done (formatError disk blocks)
+
+unfoldable pub formatDisk : List ℕ → ℕ → List ℕ
+formatDisk disk blocks = unlessRefused (formatError disk blocks) (formatted blocks) disk

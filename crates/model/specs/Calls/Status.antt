@@ -1,0 +1,35 @@
+-- Status. "allocated is the number of ones in SAM, free is m less allocated, and the seats not idle are counted." The
+-- memory stays.
+use Prim.Native.Nat.{ℕ, _+_, _-_}
+use mathlib.Core.Bool.{cond}
+use mathlib.Core.Option.{Option}
+use mathlib.Core.List.{List, [], _∷_}
+use lib.ListN.{length}
+use Rattle.bitmap.specs.Blocks.{allocatedBlocks}
+use Rattle.model.specs.Types.{Error, StatusAnswer, Counts, Slot, Memory, MemoryInvalid}
+use Rattle.model.specs.Errors.{first, _⇒_}
+use Rattle.model.specs.Answers.{counted}
+use Rattle.model.specs.Memory.{isActive}
+use Rattle.model.specs.Causes.{memoryInvalid}
+
+unfoldable pub statusError : Memory → Option Error
+statusError memory = first (memoryInvalid memory ⇒ MemoryInvalid ∷ [])
+
+-- the allocated blocks of a memory
+unfoldable pub allocated : Memory → List ℕ
+allocated memory = allocatedBlocks (memory .blocks) (memory .sam .words)
+
+unfoldable pub activeSlots : List Slot → ℕ
+activeSlots [] = 0
+activeSlots (slot ∷ slots) = cond (isActive (slot .state)) 1 0 + activeSlots slots
+
+unfoldable pub counts : Memory → Counts
+counts memory =
+    record {
+      allocated = length (allocated memory);
+      free = memory .blocks - length (allocated memory);
+      active = activeSlots (memory .slots);
+    }
+
+unfoldable pub statusAnswer : Memory → StatusAnswer
+statusAnswer memory = counted (statusError memory) (counts memory)

@@ -1,0 +1,103 @@
+-- Document 01's table, "Causes of refusal": when each cause holds. What a call tests is in Calls/.
+use Prim.Native.Nat.{ℕ, suc}
+use mathlib.Core.Bool.{Bool, true, false, not, _&&_, _||_}
+use mathlib.Core.List.{List, [], _∷_}
+use lib.ListN.{length}
+use lib.Dec.{leb, ltb, eqb}
+use Rattle.bitmap.specs.Sizes.{slotCount, maxCount}
+use Rattle.bitmap.specs.Bits.{noBitsFrom}
+use Rattle.bitmap.specs.Blocks.{availableBlocks}
+use Rattle.model.specs.Types.{Pending, Nothing, Commit, Recovery, Memory}
+use Rattle.model.specs.Sizes.{diskWords}
+use Rattle.model.specs.Memory.{slotAt, isActive, isPrecommitted, samBit, comBit}
+use Rattle.model.specs.Valid.{blocksInRange, valid}
+use Rattle.model.specs.Disk.{diskBlocks, diskBitmap, logValid, diskMatches}
+
+-- 1, "memory not fit"
+unfoldable pub memoryInvalid : Memory → Bool
+memoryInvalid memory = not (valid memory)
+
+-- 2, "medium not 386 words"
+unfoldable pub diskLengthWrong : List ℕ → Bool
+diskLengthWrong disk = not (eqb (length disk) diskWords)
+
+-- 3, "word 0 not 1 to 4,096"
+unfoldable pub diskBlocksWrong : List ℕ → Bool
+diskBlocksWrong disk = not (blocksInRange (diskBlocks disk))
+
+-- 4, "a map bit from m on"
+unfoldable pub diskBitmapWrong : List ℕ → Bool
+diskBitmapWrong disk = not (noBitsFrom (diskBlocks disk) (diskBitmap disk))
+
+-- 5, "p above W, or among the p entries a number of W or more, numbers not strictly rising, or a bit from m on"
+unfoldable pub diskLogWrong : List ℕ → Bool
+diskLogWrong disk = not (logValid disk)
+
+-- 6, "words 0 to 129 and the log words written aren't as this memory and its stores done leave them; in recovery .."
+unfoldable pub diskMismatched : Memory → List ℕ → Bool
+diskMismatched memory disk = not (diskMatches memory disk (memory .pending))
+
+-- 7, "asked m outside 1 to 4,096"
+unfoldable pub blocksOutOfRange : ℕ → Bool
+blocksOutOfRange blocks = not (blocksInRange blocks)
+
+-- 9, "no store work in hand"
+unfoldable pub isNothing : Pending → Bool
+isNothing Nothing = true
+isNothing (Commit s done due) = false
+isNothing (Recovery done due) = false
+
+unfoldable pub nothingPending : Memory → Bool
+nothingPending memory = isNothing (memory .pending)
+
+-- 8, "store work in hand"
+unfoldable pub workPending : Memory → Bool
+workPending memory = not (nothingPending memory)
+
+-- 10, "seat above 7"
+unfoldable pub slotOutOfRange : ℕ → Bool
+slotOutOfRange s = leb slotCount s
+
+-- 11, "seat not idle"
+unfoldable pub slotActive : Memory → ℕ → Bool
+slotActive memory s = isActive (slotAt memory s .state)
+
+-- 12, "seat idle"
+unfoldable pub slotInactive : Memory → ℕ → Bool
+slotInactive memory s = not (slotActive memory s)
+
+-- 13, "seat precommitted"
+unfoldable pub slotPrecommitted : Memory → ℕ → Bool
+slotPrecommitted memory s = isPrecommitted (slotAt memory s .state)
+
+-- 14, "seat not precommitted"
+unfoldable pub slotNotPrecommitted : Memory → ℕ → Bool
+slotNotPrecommitted memory s = not (slotPrecommitted memory s)
+
+-- 15, "count outside 1 to 64"
+unfoldable pub countOutOfRange : ℕ → Bool
+countOutOfRange count = not (leb 1 count && leb count maxCount)
+
+-- 16, "list shorter than the count"
+unfoldable pub listShort : List ℕ → ℕ → Bool
+listShort list count = ltb (length list) count
+
+-- the available blocks of a memory, lowest first
+unfoldable pub available : Memory → List ℕ
+available memory = availableBlocks (memory .blocks) (memory .sam .words) (memory .com .words)
+
+-- 17, "fewer grantable blocks than the count"
+unfoldable pub tooFewAvailable : Memory → ℕ → Bool
+tooFewAvailable memory count = ltb (length (available memory)) count
+
+-- 18, "block m or above"
+unfoldable pub blockOutOfRange : Memory → ℕ → Bool
+blockOutOfRange memory b = leb (memory .blocks) b
+
+-- 19, "SAM 0 there"
+unfoldable pub blockFree : Memory → ℕ → Bool
+blockFree memory b = not (samBit memory b)
+
+-- 20, "SAM 1 and COM 0 there"
+unfoldable pub blockFreeing : Memory → ℕ → Bool
+blockFreeing memory b = samBit memory b && not (comBit memory b)

@@ -1,0 +1,89 @@
+-- The disk (document 01: the medium): its layout, its log, replay, and what a memory and its stores done leave of it.
+use Prim.Native.Nat.{ℕ, zero, suc, _+_, _-_, _*_, _^_}
+use mathlib.Core.Bool.{Bool, true, false, _&&_}
+use mathlib.Core.List.{List, [], _∷_, _++_}
+use lib.ListN.{getD, take, drop}
+use lib.Dec.{leb, ltb, eqb}
+use Rattle.bitmap.specs.Sizes.{bitmapWords, wordsFor}
+use Rattle.bitmap.specs.Bits.{noBitsFrom}
+use Rattle.model.specs.Types.{Bitmap, Pending, Nothing, Commit, Recovery, Memory}
+use Rattle.model.specs.Sizes.{blocksAt, lengthAt, bitmapAt, logAt}
+use Rattle.model.specs.Stores.{Store, writes, after, commitStores, mendStores, _≔_}
+use Rattle.model.specs.Commit.{entriesOf}
+use Rattle.model.specs.Valid.{sameWords}
+
+-- word 0
+abbrev pub diskBlocks : List ℕ → ℕ
+diskBlocks disk = getD disk blocksAt 0
+
+-- word 1, the log length p
+abbrev pub logLength : List ℕ → ℕ
+logLength disk = getD disk lengthAt 0
+
+-- words 2 to 129
+abbrev pub diskBitmap : List ℕ → List ℕ
+diskBitmap disk = take bitmapWords (drop bitmapAt disk)
+
+-- a disk's words from its four parts
+abbrev pub diskOf : ℕ → ℕ → List ℕ → List ℕ → List ℕ
+diskOf blocks length words log = blocks ∷ length ∷ (words ++ log)
+
+-- the first n entries of a log
+unfoldable pub entriesIn : ℕ → List ℕ → List Store
+entriesIn zero words = []
+entriesIn (suc n) [] = []
+entriesIn (suc n) (number ∷ []) = []
+entriesIn (suc n) (number ∷ contents ∷ words) = number ≔ contents ∷ entriesIn n words
+
+-- the p entries of a disk's log. "Log words beyond the p entries mean nothing."
+unfoldable pub logEntries : List ℕ → List Store
+logEntries disk = entriesIn (logLength disk) (drop logAt disk)
+
+-- entries that may follow in a log of m blocks: numbers from low on and below W, strictly rising, no bits from m on
+unfoldable pub entriesValid : ℕ → ℕ → List Store → Bool
+entriesValid blocks low [] = true
+entriesValid blocks low (entry ∷ entries) =
+    leb low (entry .place)
+    && ltb (entry .place) (wordsFor blocks)
+    && ltb (entry .value) (2 ^ (blocks - 32 * entry .place))
+    && entriesValid blocks (suc (entry .place)) entries
+
+-- cause 5 doesn't hold: p at most W, its numbers below W and strictly rising, no bit from m on
+unfoldable pub logValid : List ℕ → Bool
+logValid disk = leb (logLength disk) (wordsFor (diskBlocks disk)) && entriesValid (diskBlocks disk) 0 (logEntries disk)
+
+-- the bitmap that a disk stands for: words 2 to 129 with the logged words written over them
+unfoldable pub durable : List ℕ → List ℕ
+durable disk = writes (logEntries disk) (diskBitmap disk)
+
+-- the stores of this memory's pending work
+unfoldable pub dueStores : Memory → List ℕ → Pending → List Store
+dueStores memory disk Nothing = []
+dueStores memory disk (Commit s done due) = commitStores (entriesOf memory s)
+dueStores memory disk (Recovery done due) = mendStores (logEntries disk)
+
+-- whether the entries of a log agree with a bitmap
+unfoldable pub entriesAgree : List ℕ → List Store → Bool
+entriesAgree words [] = true
+entriesAgree words (entry ∷ entries) = eqb (getD words (entry .place) 0) (entry .value) && entriesAgree words entries
+
+-- the disk before the stores of a commit, by its own log words: those written since are written by the stores done
+abbrev pub ground : Memory → List ℕ → List ℕ
+ground memory disk = diskOf (memory .blocks) 0 (memory .sam .words) (drop logAt disk)
+
+-- "in recovery all p entries must pass cause 5 and agree with SAM, and logged map words still to be rewritten may hold any
+-- bits below m": with those words written, words 2 to 129 are SAM
+unfoldable pub recoveryMatches : Memory → List ℕ → ℕ → ℕ → Bool
+recoveryMatches memory disk done due =
+    eqb (diskBlocks disk) (memory .blocks)
+    && eqb (logLength disk + 1) due
+    && logValid disk
+    && entriesAgree (memory .sam .words) (logEntries disk)
+    && noBitsFrom (memory .blocks) (diskBitmap disk)
+    && sameWords (writes (drop done (logEntries disk)) (diskBitmap disk)) (memory .sam .words)
+
+-- cause 6 doesn't hold: "words 0 to 129 and the log words written" are "as this memory and its stores done leave them"
+unfoldable pub diskMatches : Memory → List ℕ → Pending → Bool
+diskMatches memory disk Nothing = sameWords disk (ground memory disk)
+diskMatches memory disk (Commit s done due) = sameWords disk (after done (commitStores (entriesOf memory s)) (ground memory disk))
+diskMatches memory disk (Recovery done due) = recoveryMatches memory disk done due

@@ -1,0 +1,135 @@
+-- The ledger of document 01: which blocks are allocated, and what each slot took and gave back, kept from calls and
+-- answers alone. "The ledger is fed each call's kind, seat and block, its answer, and the numbers that an allocate lists;
+-- it never looks into memory or medium."
+use Prim.Native.Nat.{ℕ, zero, suc, _+_, _*_, _/_}
+use mathlib.Core.Bool.{Bool, true, false, not, cond, _&&_, _||_}
+use mathlib.Core.Option.{Option, none, some}
+use mathlib.Core.List.{List, [], _∷_, _++_}
+use lib.ListN.{getD, set, replicate}
+use lib.Dec.{eqb}
+use Rattle.bitmap.specs.Sizes.{bitmapWords, slotCount}
+use Rattle.bitmap.specs.Blocks.{member}
+
+pub data Kind : Type 0 where
+  opening starting allocating deallocating precommitting committing rolling storing asking crashing : Kind
+
+-- what the ledger is fed of a call: its kind, slot and block, its answer's number, and the numbers that an allocate lists
+pub record Event : Type 0 where
+  pub kind : Kind
+  pub slot : ℕ
+  pub block : ℕ
+  pub answer : ℕ
+  pub listed : List ℕ
+
+-- a slot's sets taken and freed (document 01: given back)
+pub record Sets : Type 0 where
+  pub taken : List ℕ
+  pub freed : List ℕ
+
+-- a commit under count: its slot and its number
+pub record Counting : Type 0 where
+  pub slot : ℕ
+  pub number : ℕ
+
+-- "It holds a set A, for each seat a set taken and a set given back, and a commit under count: none, or a seat and a number."
+pub record Ledger : Type 0 where
+  pub allocated : List ℕ
+  pub slots : List Sets
+  pub counting : Option Counting
+
+abbrev pub noSets : Sets
+noSets = record { taken = []; freed = [] }
+
+abbrev pub setsOf : Ledger → ℕ → Sets
+setsOf ledger s = getD (ledger .slots) s noSets
+
+abbrev pub ledgerOf : List ℕ → List Sets → Option Counting → Ledger
+ledgerOf allocated slots counting = record { allocated = allocated; slots = slots; counting = counting }
+
+-- "every seat's sets are emptied, the count is none"
+unfoldable pub emptied : Ledger → Ledger
+emptied ledger = ledgerOf (ledger .allocated) (replicate slotCount noSets) none
+
+-- "At first every set is empty and the count is none."
+abbrev pub emptyLedger : Ledger
+emptyLedger = ledgerOf [] (replicate slotCount noSets) none
+
+abbrev pub withSets : Ledger → ℕ → Sets → Ledger
+withSets ledger s sets = ledgerOf (ledger .allocated) (set (ledger .slots) s sets) (ledger .counting)
+
+abbrev pub withCounting : Ledger → Option Counting → Ledger
+withCounting ledger counting = ledgerOf (ledger .allocated) (ledger .slots) counting
+
+-- whether a set has a block in bitmap word k
+unfoldable pub hasWord : ℕ → List ℕ → Bool
+hasWord k [] = false
+hasWord k (b ∷ blocks) = eqb (b / 32) k || hasWord k blocks
+
+-- the number of bitmap words from k on, n of them, in which a set has blocks
+unfoldable pub wordsFrom : ℕ → ℕ → List ℕ → ℕ
+wordsFrom k zero blocks = 0
+wordsFrom k (suc n) blocks = cond (hasWord k blocks) 1 0 + wordsFrom (suc k) n blocks
+
+-- "d is the number of map words in which its two sets have blocks"
+unfoldable pub setsWords : Sets → ℕ
+setsWords sets = wordsFrom 0 bitmapWords (sets .taken ++ sets .freed)
+
+-- the blocks of the first list that aren't in the second
+unfoldable pub without : List ℕ → List ℕ → List ℕ
+without [] gone = []
+without (b ∷ blocks) gone = cond (member b gone) (without blocks gone) (b ∷ without blocks gone)
+
+-- "Allocate: the numbers listed join the seat's taken."
+unfoldable pub takes : Ledger → ℕ → List ℕ → Ledger
+takes ledger s listed = withSets ledger s (record { taken = setsOf ledger s .taken ++ listed; freed = setsOf ledger s .freed })
+
+-- "Deallocate: the block joins its given back."
+unfoldable pub frees : Ledger → ℕ → ℕ → Ledger
+frees ledger s block = withSets ledger s (record { taken = setsOf ledger s .taken; freed = setsOf ledger s .freed ++ (block ∷ []) })
+
+-- "Commit: If d is 0, nothing alters; else the seat is under count, at 0."
+unfoldable pub counts : Ledger → ℕ → Ledger
+counts ledger s = cond (eqb (setsWords (setsOf ledger s)) 0) ledger (withCounting ledger (some (record { slot = s; number = 0 })))
+
+-- the commit point (document 01: the mark store): "A loses what the seat gave back and gains what it took, both its sets
+-- are emptied, the count is none."
+unfoldable pub marks : Ledger → ℕ → Ledger
+marks ledger s =
+    ledgerOf
+    (without (ledger .allocated) (setsOf ledger s .freed) ++ setsOf ledger s .taken)
+    (set (ledger .slots) s noSets)
+    none
+
+-- "Store: a number under count rises by 1. At 2·d + 1 this is the mark store"
+unfoldable pub stores : Ledger → Option Counting → Ledger
+stores ledger none = ledger
+stores ledger (some counting) =
+    cond (eqb (counting .number + 1) (2 * setsWords (setsOf ledger (counting .slot)) + 1))
+    (marks ledger (counting .slot))
+    (withCounting ledger (some (record { slot = counting .slot; number = counting .number + 1 })))
+
+-- what an accepted call, or a crash, alters. "start, precommit, status: nothing alters"
+unfoldable pub entered : Kind → ℕ → ℕ → List ℕ → Ledger → Ledger
+entered opening s block listed ledger = emptied ledger
+entered starting s block listed ledger = ledger
+entered allocating s block listed ledger = takes ledger s listed
+entered deallocating s block listed ledger = frees ledger s block
+entered precommitting s block listed ledger = ledger
+entered committing s block listed ledger = counts ledger s
+entered rolling s block listed ledger = withSets ledger s noSets
+entered storing s block listed ledger = stores ledger (ledger .counting)
+entered asking s block listed ledger = ledger
+entered crashing s block listed ledger = emptied ledger
+
+-- "Refused call: nothing alters."
+unfoldable pub enter : Event → Ledger → Ledger
+enter event ledger = cond (eqb (event .answer) 0) (entered (event .kind) (event .slot) (event .block) (event .listed) ledger) ledger
+
+-- how many slots have a block in their taken
+unfoldable pub takers : ℕ → List Sets → ℕ
+takers b [] = 0
+takers b (sets ∷ slots) = cond (member b (sets .taken)) 1 0 + takers b slots
+
+-- "A block's holders are A, if the block is in it, and each seat with the block in its taken."
+unfoldable pub holders : Ledger → ℕ → ℕ
+holders ledger b = cond (member b (ledger .allocated)) 1 0 + takers b (ledger .slots)

@@ -1,0 +1,1 @@
+-- The bench line: to be written.
