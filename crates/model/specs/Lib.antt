@@ -13,3 +13,4 @@ pub mod Calls
 pub mod Ledger
 pub mod World
 pub mod Line
+pub mod Bench

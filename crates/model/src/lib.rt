@@ -1,4 +1,5 @@
 // What is promised: the types of the allocator here, and every rule of document 01 in specs/.
 pub mod answer;
 pub mod error;
+pub mod line;
 pub mod memory;
