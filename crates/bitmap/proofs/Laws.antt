@@ -1,0 +1,6 @@
+-- The laws of words, bitmaps and lists of blocks, on which all proofs above this crate stand.
+pub mod Word
+pub mod Bits
+pub mod Blocks
+pub mod Majority
+pub mod Count

@@ -1,0 +1,201 @@
+-- Lists of blocks: what is in them, that they rise, and how a scan goes on from one block to the next.
+use Prim.Native.Nat.{ℕ, zero, suc, _+_, _-_, _≤_, _<_, suc-le-suc}
+use native.Mathlib.Nat.{not-suc-le-zero, le-refl, le-trans, le-step, eq-or-lt-of-le, le-of-suc-le-suc, sub-eq-zero-of-le}
+use native.Mathlib.Decide.{le-ind}
+use native.Mathlib.Omega.{arith}
+use mathlib.Core.Path.{_≡_, refl, sym, ap, _∙_}
+use mathlib.Core.Logic.{_⊎_, inl, inr, ⊎-elim}
+use mathlib.Core.Bool.{Bool, true, false, cond, _||_, and-eq-true-iff, or-assoc, or-true, false≢true}
+use mathlib.Core.List.{List, [], _∷_, _++_}
+use lib.ListN.{length, take}
+use lib.Dec.{eqb}
+use borrow.Author.Tests.{eqb-true, eq-eqb}
+use Rattle.bitmap.specs.Bits.{bit}
+use Rattle.bitmap.specs.Blocks.{scan, from, allocatedBlocks, isAvailable, availableBlocks, member, allBelow}
+use Rattle.bitmap.proofs.Laws.Bits.{below-or-from}
+
+-- ---- a test at every number below n
+
+-- it holds at each
+pub allBelow-at : (n : ℕ) (test : ℕ → Bool) (b : ℕ) → allBelow n test ≡ true → b < n → test b ≡ true
+unfolding allBelow
+allBelow-at zero test b h l = absurd (not-suc-le-zero l)
+allBelow-at (suc n) test b h l =
+    ⊎-elim (λ e. ap test e ∙ both .0) (λ k. allBelow-at n test b (both .1) k) (eq-or-lt-of-le (le-of-suc-le-suc l))
+  where
+    both : (test n ≡ true) × (allBelow n test ≡ true)
+    both = and-eq-true-iff (test n) (allBelow n test) .0 h
+
+-- and if it holds at each, it holds at all
+pub allBelow-all : (n : ℕ) (test : ℕ → Bool) → ((b : ℕ) → b < n → test b ≡ true) → allBelow n test ≡ true
+unfolding allBelow
+allBelow-all zero test h = refl
+allBelow-all (suc n) test h =
+    and-eq-true-iff (test n) (allBelow n test) .1 (h n (le-refl (suc n)), allBelow-all n test (λ b l. h b (le-step l)))
+
+-- ---- what a list has
+
+-- two lists joined have what one of them has
+pub member-append : (b : ℕ) (xs ys : List ℕ) → member b (xs ++ ys) ≡ (member b xs || member b ys)
+unfolding member
+member-append b [] ys = refl
+member-append b (x ∷ xs) ys = ap (λ (t : Bool). eqb b x || t) (member-append b xs ys) ∙ sym (or-assoc (eqb b x) (member b xs) (member b ys))
+
+-- a block of a list is its first or in its rest
+member-cons : (b x : ℕ) (xs : List ℕ) → member b (x ∷ xs) ≡ true → (b ≡ x) ⊎ (member b xs ≡ true)
+unfolding member
+member-cons b x xs h = go (eqb b x) refl h
+  where
+    go : (t : Bool) → eqb b x ≡ t → (t || member b xs) ≡ true → (b ≡ x) ⊎ (member b xs ≡ true)
+    go true e k = inl (eqb-true b x e)
+    go false e k = inr k
+
+-- a list's rest has no more than the list
+member-rest : (b x : ℕ) (xs : List ℕ) → member b xs ≡ true → member b (x ∷ xs) ≡ true
+unfolding member
+member-rest b x xs h = rw (h, or-true)
+
+-- a list's start has no more than the list
+pub member-take : (n b : ℕ) (xs : List ℕ) → member b (take n xs) ≡ true → member b xs ≡ true
+unfolding member
+member-take zero b xs h = absurd (false≢true h)
+member-take (suc n) b [] h = h
+member-take (suc n) b (x ∷ xs) h =
+    ⊎-elim (λ e. rw (eq-eqb b x e)) (λ k. member-rest b x xs (member-take n b xs k)) (member-cons b x (take n xs) h)
+
+-- ---- what a scan finds
+
+-- of a scan of n blocks from p on: each is one of these, and the test holds there
+member-scan : (test : ℕ → Bool) (p n b : ℕ) → member b (scan test p n) ≡ true → (p ≤ b) × (b < p + n) × (test b ≡ true)
+unfolding scan member
+member-scan test p zero b h = absurd (false≢true h)
+member-scan test p (suc n) b h = go (test p) refl h (member-scan test (suc p) n b)
+  where
+    Found : ℕ → ℕ → Type 0
+    Found q k = (q ≤ b) × (b < q + k) × (test b ≡ true)
+
+    later : Found (suc p) n → Found p (suc n)
+    later f = (omega (arith, f .0), omega (arith, f .1), f .2)
+
+    go : (t : Bool) → test p ≡ t → member b (cond t (p ∷ scan test (suc p) n) (scan test (suc p) n)) ≡ true
+        → (member b (scan test (suc p) n) ≡ true → Found (suc p) n) → Found p (suc n)
+    go true e k ih =
+        ⊎-elim (λ q. (omega arith, omega arith, ap test q ∙ e)) (λ r. later (ih r)) (member-cons b p (scan test (suc p) n) k)
+    go false e k ih = later (ih k)
+
+-- and each of these at which the test holds is found
+scan-member : (test : ℕ → Bool) (p n b : ℕ) → p ≤ b → b < p + n → test b ≡ true → member b (scan test p n) ≡ true
+unfolding scan member
+scan-member test p zero b l h e = absurd (omega arith)
+scan-member test p (suc n) b l h e =
+    ⊎-elim here (λ k. there (test p) (scan-member test (suc p) n b k (omega arith) e)) (eq-or-lt-of-le l)
+  where
+    here : p ≡ b → member b (scan test p (suc n)) ≡ true
+    here q = rw (ap test q ∙ e, eq-eqb b p (sym q))
+
+    there : (t : Bool) → member b (scan test (suc p) n) ≡ true → member b (cond t (p ∷ scan test (suc p) n) (scan test (suc p) n)) ≡ true
+    there true k = member-rest b p (scan test (suc p) n) k
+    there false k = k
+
+-- what a scan up to m finds is from p on, below m, and the test holds there
+pub member-from-true : (test : ℕ → Bool) (m p b : ℕ) → member b (from test m p) ≡ true → (p ≤ b) × (b < m) × (test b ≡ true)
+unfolding from
+member-from-true test m p b h =
+    let f = member-scan test p (m - p) b h in
+    (f .0, omega (arith, f .0, f .1), f .2)
+
+-- and each such block is found
+pub from-member : (test : ℕ → Bool) (m p b : ℕ) → p ≤ b → b < m → test b ≡ true → member b (from test m p) ≡ true
+unfolding from
+from-member test m p b l h e = scan-member test p (m - p) b l (omega arith) e
+
+-- an allocated block is below m and has its bit set
+pub allocated-below : (m : ℕ) (sam : List ℕ) (b : ℕ) → member b (allocatedBlocks m sam) ≡ true → (b < m) × (bit sam b ≡ true)
+unfolding allocatedBlocks
+allocated-below m sam b h = let f = member-from-true (bit sam) m 0 b h in (f .1, f .2)
+
+-- an available block is below m and is available
+pub available-below : (m : ℕ) (sam «com» : List ℕ) (b : ℕ) → member b (availableBlocks m sam «com») ≡ true → (b < m) × (isAvailable sam «com» b ≡ true)
+unfolding availableBlocks
+available-below m sam «com» b h = let f = member-from-true (isAvailable sam «com») m 0 b h in (f .1, f .2)
+
+-- ---- rising lists
+
+-- each number is at least the bound, and the rest rises from its successor
+abbrev pub Rising : ℕ → List ℕ → Type 0
+Rising p [] = Unit {0}
+Rising p (x ∷ xs) = (p ≤ x) × Rising (suc x) xs
+
+-- a list that rises from a bound rises from a lower one
+rising-lower : (p q : ℕ) (xs : List ℕ) → p ≤ q → Rising q xs → Rising p xs
+rising-lower p q [] l r = tt
+rising-lower p q (x ∷ xs) l r = (le-trans l (r .0), r .1)
+
+-- a scan rises
+scan-rising : (test : ℕ → Bool) (p n : ℕ) → Rising p (scan test p n)
+unfolding scan
+scan-rising test p zero = tt
+scan-rising test p (suc n) = go (test p) (scan-rising test (suc p) n)
+  where
+    go : (t : Bool) → Rising (suc p) (scan test (suc p) n) → Rising p (cond t (p ∷ scan test (suc p) n) (scan test (suc p) n))
+    go true r = (le-refl p, r)
+    go false r = rising-lower p (suc p) (scan test (suc p) n) (omega arith) r
+
+pub from-rising : (test : ℕ → Bool) (m p : ℕ) → Rising p (from test m p)
+unfolding from
+from-rising test m p = scan-rising test p (m - p)
+
+-- the start of a rising list rises
+pub take-rising : (n p : ℕ) (xs : List ℕ) → Rising p xs → Rising p (take n xs)
+take-rising zero p xs r = tt
+take-rising (suc n) p [] r = tt
+take-rising (suc n) p (x ∷ xs) r = (r .0, take-rising n (suc x) xs (r .1))
+
+-- ---- a scan from one block to the next
+
+-- below m it takes the block if the test holds there, and goes on
+pub from-step : (test : ℕ → Bool) (m p : ℕ) → p < m
+    → from test m p ≡ cond (test p) (p ∷ from test m (suc p)) (from test m (suc p))
+unfolding from scan
+from-step test m p h = let e : m - p ≡ suc (m - suc p) = omega arith in rw e
+
+-- from m on there is nothing
+pub from-end : (test : ℕ → Bool) (m p : ℕ) → m ≤ p → from test m p ≡ []
+unfolding from scan
+from-end test m p h = rw (sub-eq-zero-of-le h)
+
+-- a block at which the test fails is skipped
+from-next : (test : ℕ → Bool) (m p : ℕ) → test p ≡ false → from test m p ≡ from test m (suc p)
+from-next test m p e =
+    ⊎-elim (λ l. from-step test m p l ∙ rw e) (λ l. from-end test m p l ∙ sym (from-end test m (suc p) (le-step l))) (below-or-from p m)
+
+-- and so are all up to q
+pub from-skip : (test : ℕ → Bool) (m p q : ℕ) → p ≤ q → ((b : ℕ) → p ≤ b → b < q → test b ≡ false) → from test m p ≡ from test m q
+from-skip test m p q l none =
+    le-ind (λ (k : ℕ). k ≤ q → from test m p ≡ from test m k) (λ _. refl)
+    (λ k h ih u. ih (omega arith) ∙ from-next test m k (none k h u)) q l (le-refl q)
+
+-- tests that agree find the same
+scan-same : (test other : ℕ → Bool) (p n : ℕ) → ((b : ℕ) → p ≤ b → b < p + n → test b ≡ other b) → scan test p n ≡ scan other p n
+unfolding scan
+scan-same test other p zero same = refl
+scan-same test other p (suc n) same =
+    rw (same p (le-refl p) (omega arith), scan-same test other (suc p) n (λ b l h. same b (omega arith) (omega arith)))
+
+pub from-same : (test other : ℕ → Bool) (m p : ℕ) → ((b : ℕ) → p ≤ b → b < m → test b ≡ other b) → from test m p ≡ from other m p
+unfolding from
+from-same test other m p same = scan-same test other p (m - p) (λ b l h. same b l (omega arith))
+
+-- a scan finds no more blocks than it goes over
+scan-length : (test : ℕ → Bool) (p n : ℕ) → length (scan test p n) ≤ n
+unfolding scan
+scan-length test p zero = le-refl 0
+scan-length test p (suc n) = go (test p) (scan-length test (suc p) n)
+  where
+    go : (t : Bool) → length (scan test (suc p) n) ≤ n → length (cond t (p ∷ scan test (suc p) n) (scan test (suc p) n)) ≤ suc n
+    go true h = suc-le-suc h
+    go false h = le-step h
+
+pub from-length : (test : ℕ → Bool) (m p : ℕ) → length (from test m p) ≤ m - p
+unfolding from
+from-length test m p = scan-length test p (m - p)
