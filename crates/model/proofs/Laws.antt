@@ -1,0 +1,6 @@
+-- Laws that follow from the definitions.
+pub mod Writes
+pub mod Entries
+pub mod DiskParts
+pub mod CommitLog
+pub mod RecoveryLog
