@@ -2,5 +2,6 @@
 pub mod Writes
 pub mod Entries
 pub mod DiskParts
+pub mod Valid
 pub mod CommitLog
 pub mod RecoveryLog

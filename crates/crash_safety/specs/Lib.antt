@@ -1,0 +1,2 @@
+-- Demand 3: the claim.
+pub mod Statement

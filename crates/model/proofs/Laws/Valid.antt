@@ -1,0 +1,107 @@
+-- What a valid memory is, part by part.
+use Prim.Native.Nat.{ℕ, zero, suc, _+_, _≤_, _<_}
+use native.Mathlib.Omega.{arith}
+use mathlib.Core.Path.{_≡_, refl, sym, ap, _∙_}
+use mathlib.Core.Bool.{Bool, true, false, not, cond, xor, _&&_, false≢true, true≢false}
+use mathlib.Core.List.{List, [], _∷_}
+use lib.ListN.{length, getD, replicate}
+use lib.Dec.{eqb}
+use borrow.Author.Tests.{eqb-true}
+use Rattle.bitmap.specs.Bits.{bit, noBitsFrom}
+use Rattle.bitmap.specs.Blocks.{allBelow}
+use Rattle.bitmap.proofs.Laws.Blocks.{allBelow-at}
+use Rattle.model.specs.Types.{Slot, Memory}
+use Rattle.model.specs.Memory.{slotAt, idleSlot, isActive, samBit, comBit, tamBit, touched, emptyBitmap}
+use Rattle.model.specs.Valid.{blocksInRange, sameWords, allSlots, slotValid, touches, touchesAgree, pendingValid, valid}
+use Rattle.model.proofs.Laws.Writes.{and-first, and-second, same-words}
+use Rattle.model.proofs.Laws.DiskParts.{inRange-low, inRange-high}
+
+pub record ValidParts (memory : Memory) : Type 0 where
+  pub some-blocks : 1 ≤ memory .blocks
+  pub few-blocks : memory .blocks ≤ 4096
+  pub sam-below : noBitsFrom (memory .blocks) (memory .sam .words) ≡ true
+  pub com-below : noBitsFrom (memory .blocks) (memory .com .words) ≡ true
+  pub slots-valid : allSlots (slotValid (memory .blocks)) (memory .slots) ≡ true
+  pub touches-agree : touchesAgree memory ≡ true
+  pub pending-valid : pendingValid memory (memory .pending) ≡ true
+
+pub valid-parts : (memory : Memory) → valid memory ≡ true → ValidParts memory
+unfolding valid
+valid-parts memory e =
+    let e5 = and-first _ (pendingValid memory (memory .pending)) e in
+    let e4 = and-first _ (touchesAgree memory) e5 in
+    let e3 = and-first _ (allSlots (slotValid (memory .blocks)) (memory .slots)) e4 in
+    let e2 = and-first _ (noBitsFrom (memory .blocks) (memory .com .words)) e3 in
+    let e1 = and-first _ (noBitsFrom (memory .blocks) (memory .sam .words)) e2 in
+    record {
+      some-blocks = inRange-low (memory .blocks) e1;
+      few-blocks = inRange-high (memory .blocks) e1;
+      sam-below = and-second (blocksInRange (memory .blocks)) _ e2;
+      com-below = and-second (blocksInRange (memory .blocks) && noBitsFrom (memory .blocks) (memory .sam .words)) _ e3;
+      slots-valid =
+          and-second
+          (blocksInRange (memory .blocks) && noBitsFrom (memory .blocks) (memory .sam .words) && noBitsFrom (memory .blocks) (memory .com .words))
+          _
+          e4;
+      touches-agree =
+          and-second
+          (blocksInRange (memory .blocks)
+          && noBitsFrom (memory .blocks) (memory .sam .words)
+          && noBitsFrom (memory .blocks) (memory .com .words)
+          && allSlots (slotValid (memory .blocks)) (memory .slots))
+          _
+          e5;
+      pending-valid =
+          and-second
+          (blocksInRange (memory .blocks)
+          && noBitsFrom (memory .blocks) (memory .sam .words)
+          && noBitsFrom (memory .blocks) (memory .com .words)
+          && allSlots (slotValid (memory .blocks)) (memory .slots)
+          && touchesAgree memory)
+          _
+          e
+    }
+
+-- what holds of every slot holds of slot s, if it holds of an idle one
+pub allSlots-at : (test : Slot → Bool) (slots : List Slot) (s : ℕ) → test idleSlot ≡ true → allSlots test slots ≡ true → test (getD slots s idleSlot) ≡ true
+unfolding allSlots
+allSlots-at test [] s i e = i
+allSlots-at test (slot ∷ slots) zero i e = and-first (test slot) _ e
+allSlots-at test (slot ∷ slots) (suc s) i e = allSlots-at test slots s i (and-second (test slot) _ e)
+
+-- a block that COM and SAM agree on is touched by no active slot; where they differ, by just one
+pub touches-at : (memory : Memory) (b : ℕ) → touchesAgree memory ≡ true → b < memory .blocks → touches memory b (memory .slots) ≡ cond (xor (samBit memory b) (comBit memory b)) 1 0
+unfolding touchesAgree
+touches-at memory b e h =
+    eqb-true
+    (touches memory b (memory .slots))
+    (cond (xor (samBit memory b) (comBit memory b)) 1 0)
+    (allBelow-at (memory .blocks) (λ x. eqb (touches memory x (memory .slots)) (cond (xor (samBit memory x) (comBit memory x)) 1 0)) b e h)
+
+-- whether slot s, being active, has touched block b
+abbrev pub touchesBlock : Memory → Slot → ℕ → Bool
+touchesBlock memory slot b = isActive (slot .state) && touched memory slot b
+
+-- a slot that has touched a block is counted
+pub touches-one : (memory : Memory) (b : ℕ) (slots : List Slot) (s : ℕ) → touchesBlock memory (getD slots s idleSlot) b ≡ true → 1 ≤ touches memory b slots
+unfolding touches
+touches-one memory b [] s e = absurd (false≢true e)
+touches-one memory b (slot ∷ slots) zero e = rw e (omega arith)
+touches-one memory b (slot ∷ slots) (suc s) e =
+    let ih : 1 ≤ touches memory b slots = touches-one memory b slots s e in omega arith
+
+-- and so are two
+pub touches-two : (memory : Memory) (b : ℕ) (slots : List Slot) (s t : ℕ)
+    → (s ≡ t → ⊥)
+    → touchesBlock memory (getD slots s idleSlot) b ≡ true
+    → touchesBlock memory (getD slots t idleSlot) b ≡ true
+    → 2 ≤ touches memory b slots
+unfolding touches
+touches-two memory b [] s t n e f = absurd (false≢true e)
+touches-two memory b (slot ∷ slots) zero zero n e f = absurd (n refl)
+touches-two memory b (slot ∷ slots) zero (suc t) n e f =
+    let one : 1 ≤ touches memory b slots = touches-one memory b slots t f in rw e (omega arith)
+touches-two memory b (slot ∷ slots) (suc s) zero n e f =
+    let one : 1 ≤ touches memory b slots = touches-one memory b slots s e in rw f (omega arith)
+touches-two memory b (slot ∷ slots) (suc s) (suc t) n e f =
+    let ih : 2 ≤ touches memory b slots = touches-two memory b slots s t (λ q. n (ap suc q)) e f in omega arith
