@@ -1,19 +1,21 @@
 -- What a valid memory is, part by part.
-use Prim.Native.Nat.{ℕ, zero, suc, _+_, _≤_, _<_}
+use Prim.Native.Nat.{ℕ, zero, suc, _+_, _-_, _*_, _^_, _≤_, _<_}
 use native.Mathlib.Omega.{arith}
 use mathlib.Core.Path.{_≡_, refl, sym, ap, _∙_}
 use mathlib.Core.Bool.{Bool, true, false, not, cond, xor, _&&_, false≢true, true≢false}
 use mathlib.Core.List.{List, [], _∷_}
-use lib.ListN.{length, getD, replicate}
+use lib.ListN.{length, getD, replicate, getD-replicate}
+use lib.Pow.{pow-pos}
 use lib.Dec.{eqb}
 use borrow.Author.Tests.{eqb-true}
 use Rattle.bitmap.specs.Bits.{bit, noBitsFrom}
 use Rattle.bitmap.specs.Blocks.{allBelow}
+use Rattle.bitmap.proofs.Laws.Bits.{noBits-all}
 use Rattle.bitmap.proofs.Laws.Blocks.{allBelow-at}
 use Rattle.model.specs.Types.{Slot, Memory}
 use Rattle.model.specs.Memory.{slotAt, idleSlot, isActive, samBit, comBit, tamBit, touched, emptyBitmap}
 use Rattle.model.specs.Valid.{blocksInRange, sameWords, allSlots, slotValid, touches, touchesAgree, pendingValid, valid}
-use Rattle.model.proofs.Laws.Writes.{and-first, and-second, same-words}
+use Rattle.model.proofs.Laws.Writes.{and-both, and-first, and-second, words-same}
 use Rattle.model.proofs.Laws.DiskParts.{inRange-low, inRange-high}
 
 pub record ValidParts (memory : Memory) : Type 0 where
@@ -105,3 +107,23 @@ touches-two memory b (slot ∷ slots) (suc s) zero n e f =
     let one : 1 ≤ touches memory b slots = touches-one memory b slots s e in rw f (omega arith)
 touches-two memory b (slot ∷ slots) (suc s) (suc t) n e f =
     let ih : 2 ≤ touches memory b slots = touches-two memory b slots s t (λ q. n (ap suc q)) e f in omega arith
+
+-- the empty bitmap has no bits
+noBits-empty : (blocks : ℕ) → noBitsFrom blocks (replicate 128 0) ≡ true
+noBits-empty blocks =
+    noBits-all blocks (replicate 128 0) (λ k h. rw (getD-replicate {A = ℕ} 128 k 0 0 h) (pow-pos (blocks - 32 * k)))
+
+-- an idle slot is valid
+pub idle-valid : (blocks : ℕ) → slotValid blocks idleSlot ≡ true
+unfolding slotValid
+idle-valid blocks = and-both (noBits-empty blocks) (words-same (replicate 128 0))
+
+slot-valid-below : (blocks : ℕ) (slot : Slot) → slotValid blocks slot ≡ true → noBitsFrom blocks (slot .tam .words) ≡ true
+unfolding slotValid
+slot-valid-below blocks slot e = and-first (noBitsFrom blocks (slot .tam .words)) _ e
+
+-- no slot of a valid memory has bits from m on
+pub slot-below : (memory : Memory) (s : ℕ) → ValidParts memory → noBitsFrom (memory .blocks) (slotAt memory s .tam .words) ≡ true
+slot-below memory s parts =
+    slot-valid-below (memory .blocks) (slotAt memory s)
+    (allSlots-at (slotValid (memory .blocks)) (memory .slots) s (idle-valid (memory .blocks)) (parts .slots-valid))
