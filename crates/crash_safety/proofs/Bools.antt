@@ -1,6 +1,6 @@
 -- Facts on truth values.
-use mathlib.Core.Path.{_≡_, refl}
-use mathlib.Core.Bool.{Bool, true, false, not, _&&_, _||_}
+use mathlib.Core.Path.{_≡_, refl, sym}
+use mathlib.Core.Bool.{Bool, true, false, not, xor, _&&_, _||_}
 
 pub and-not : (t : Bool) → (t && not t) ≡ false
 and-not true = refl
@@ -17,3 +17,17 @@ or-true false = refl
 pub or-false : (t : Bool) → (t || false) ≡ t
 or-false true = refl
 or-false false = refl
+
+pub xor-same : (a b : Bool) → a ≡ b → xor a b ≡ false
+unfolding xor
+xor-same true true e = refl
+xor-same true false e = e
+xor-same false true e = sym e
+xor-same false false e = refl
+
+pub same-of-xor : (a b : Bool) → xor a b ≡ false → a ≡ b
+unfolding xor
+same-of-xor true true e = refl
+same-of-xor true false e = e
+same-of-xor false true e = sym e
+same-of-xor false false e = refl

@@ -9,3 +9,6 @@ pub mod Precommit
 pub mod Rollback
 pub mod Deallocate
 pub mod Allocate
+pub mod Count
+pub mod Committed
+pub mod Commit

@@ -3,5 +3,6 @@ pub mod Writes
 pub mod Entries
 pub mod DiskParts
 pub mod Valid
+pub mod Commit
 pub mod CommitLog
 pub mod RecoveryLog

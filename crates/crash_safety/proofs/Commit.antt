@@ -1,0 +1,145 @@
+-- Commit keeps the invariant: it ends at once where no word changes, and else comes under count.
+use Prim.Native.Nat.{ℕ, zero, suc, _+_, _*_, _^_, _≤_, _<_}
+use native.Mathlib.Omega.{arith}
+use mathlib.Core.Path.{_≡_, refl, sym, ap, ap₂, _∙_, subst}
+use mathlib.Core.Bool.{Bool, true, false, not, cond, xor, Bool·beq, _&&_, _||_}
+use mathlib.Core.Option.{Option, none, some}
+use mathlib.Core.List.{List, [], _∷_, _++_}
+use lib.ListN.{length, getD}
+use lib.Dec.{leb, eqb}
+use borrow.Author.Tests.{leb-false, not-false, eqb-true}
+use Rattle.bitmap.specs.Bits.{bit, IsBitmap}
+use Rattle.bitmap.specs.Blocks.{member}
+use Rattle.bitmap.proofs.Laws.Blocks.{member-append}
+use Rattle.model.specs.declared.memory.Memory.{Memory}
+use Rattle.model.specs.declared.memory.Pending.the-variants.{Nothing, Commit}
+use Rattle.model.specs.Memory.{slotAt, isActive, samBit, tamBit, withPending}
+use Rattle.model.specs.Stores.{Store, changes, writes}
+use Rattle.model.specs.Commit.{committedSam, entriesOf, changedOf, committed}
+use Rattle.model.specs.Ledger.{Sets, Ledger, setsOf, setsWords, counts, withCounting, entered, holders}
+use Rattle.model.specs.Causes.{slotOutOfRange, slotActive, slotInactive}
+use Rattle.model.specs.Calls.Committing.{commitError, commitDue, committing, commitAnswer, commitMemory}
+use Rattle.model.specs.World.{World, worldOf, step, commitCall}
+use Rattle.model.proofs.Laws.Writes.{writes-changes}
+use Rattle.model.proofs.Laws.DiskParts.{first-none}
+use Rattle.model.proofs.Laws.Valid.{ValidParts, valid-parts}
+use Rattle.model.proofs.Laws.Commit.{committed-bits}
+use Rattle.crash_safety.proofs.Bools.{and-not}
+use Rattle.crash_safety.proofs.Invariant.{Tied, Plain, Related, Invariant, countingOf}
+use Rattle.crash_safety.proofs.Refused.{call-keeps, is-valid, is-nothing, stores-number}
+use Rattle.crash_safety.proofs.Touching.{plain-of, active-taken, active-freed}
+use Rattle.crash_safety.proofs.Count.{words-changed}
+use Rattle.crash_safety.proofs.Committed.{committed-related, is-bitmap}
+
+-- what a slot has taken or freed, as one test
+touched-either : (sam tam : Bool) → ((tam && not sam) || (sam && not tam)) ≡ xor sam tam
+unfolding xor
+touched-either true true = refl
+touched-either true false = refl
+touched-either false true = refl
+touched-either false false = refl
+
+module _ (memory : Memory) (s : ℕ) (sets : Sets) (parts : ValidParts memory) (sam : IsBitmap (memory .sam .words))
+    (active : isActive (slotAt memory s .state) ≡ true)
+    (tie : Tied (samBit memory) (slotAt memory s) sets) where
+
+  -- the ledger's two sets are the blocks at which SAM changes
+  sets-change : (b : ℕ) → member b (sets .taken ++ sets .freed) ≡ xor (samBit memory b) (bit (committedSam memory s .words) b)
+  sets-change b =
+      member-append b (sets .taken) (sets .freed)
+      ∙ ap₂ _||_ (active-taken (samBit memory) (slotAt memory s) sets b tie active) (active-freed (samBit memory) (slotAt memory s) sets b tie active)
+      ∙ touched-either (samBit memory b) (tamBit (slotAt memory s) b)
+      ∙ sym (ap (xor (samBit memory b)) (committed-bits memory parts s active b))
+
+  -- so the ledger counts the words that the commit changes
+  pub same-words-counted : setsWords sets ≡ changedOf memory s
+  unfolding setsWords changedOf entriesOf
+  same-words-counted =
+      words-changed (memory .sam .words) (committedSam memory s .words) (sets .taken ++ sets .freed) (sam .small) (is-bitmap memory s .small) sets-change
+      (sam .size) (is-bitmap memory s .size)
+
+no-entries : (entries : List Store) → length entries ≡ 0 → entries ≡ []
+no-entries [] e = refl
+no-entries (x ∷ entries) e = absurd (omega arith)
+
+-- a commit that changes no word leaves SAM
+unchanged : (memory : Memory) (s : ℕ) → IsBitmap (memory .sam .words) → changedOf memory s ≡ 0 → memory .sam .words ≡ committedSam memory s .words
+unfolding changedOf entriesOf writes
+unchanged memory s sam e =
+    ap (λ (es : List Store). writes es (memory .sam .words)) (sym (no-entries (entriesOf memory s) e))
+    ∙ writes-changes (memory .sam .words) (committedSam memory s .words) (sam .size ∙ sym (is-bitmap memory s .size))
+
+module _ (w : World) (s : ℕ) (i : Invariant w) (v : Rattle.model.specs.Valid.valid (w .memory) ≡ true)
+    (nothing : w .memory .pending ≡ Nothing)
+    (below : s < 8)
+    (active : isActive (slotAt (w .memory) s .state) ≡ true) where
+
+  related : Related (w .memory) (w .ledger)
+  related = i .related v
+
+  plain : Plain (w .memory) (w .ledger) × (w .ledger .counting ≡ none)
+  plain = plain-of (w .memory) (w .ledger) (w .memory .pending) nothing (related .pending)
+
+  -- d is 0
+  ended : changedOf (w .memory) s ≡ 0 → Invariant (worldOf (committed (w .memory) s) (w .disk) (w .ledger))
+  ended e =
+      record {
+        small = i .small;
+        opens = i .opens;
+        kept = i .kept;
+        one-holder = i .one-holder;
+        slots = i .slots;
+        related = λ _.
+          committed-related (w .memory) (w .ledger) s parts active (related .slots) below
+          (λ b. sym (same b) ∙ plain .0 .finds b)
+          (λ t n. plain .0 .slots t)
+          (λ b. active-taken (samBit (w .memory)) (slotAt (w .memory) s) (setsOf (w .ledger) s) b (plain .0 .slots s) active ∙ ap (λ (t : Bool). t && not (samBit (w .memory) b)) (untouched b) ∙ and-not (samBit (w .memory) b))
+          (λ b. active-freed (samBit (w .memory)) (slotAt (w .memory) s) (setsOf (w .ledger) s) b (plain .0 .slots s) active ∙ ap (λ (t : Bool). samBit (w .memory) b && not t) (untouched b) ∙ and-not (samBit (w .memory) b))
+          (plain .1)
+      }
+    where
+      parts : ValidParts (w .memory)
+      parts = valid-parts (w .memory) v
+      same : (b : ℕ) → samBit (w .memory) b ≡ bit (committedSam (w .memory) s .words) b
+      same b = ap (λ (words : List ℕ). bit words b) (unchanged (w .memory) s (related .sam) e)
+      untouched : (b : ℕ) → tamBit (slotAt (w .memory) s) b ≡ samBit (w .memory) b
+      untouched b = sym (committed-bits (w .memory) parts s active b) ∙ sym (same b)
+
+  -- d is not 0
+  begun : (due : ℕ) → Invariant (worldOf (withPending (w .memory) (Commit s 0 due)) (w .disk) (withCounting (w .ledger) (countingOf s 0)))
+  unfolding holders
+  begun due =
+      record {
+        small = i .small;
+        opens = i .opens;
+        kept = i .kept;
+        one-holder = i .one-holder;
+        slots = i .slots;
+        related = λ _. record {
+          sam = related .sam;
+          slots = related .slots;
+          pending = ((λ _. (record { finds = plain .0 .finds; slots = plain .0 .slots }, refl)), λ h. absurd (omega (arith, h)))
+        }
+      }
+
+  committing-keeps : Invariant (worldOf (committing (w .memory) s) (w .disk) (counts (w .ledger) s))
+  unfolding committing counts
+  committing-keeps =
+      subst
+      (λ (n : ℕ). Invariant (worldOf (cond (eqb (changedOf (w .memory) s) 0) (committed (w .memory) s) (withPending (w .memory) (Commit s 0 (commitDue (w .memory) s)))) (w .disk) (cond (eqb n 0) (w .ledger) (withCounting (w .ledger) (countingOf s 0)))))
+      (sym (same-words-counted (w .memory) s (setsOf (w .ledger) s) (valid-parts (w .memory) v) (related .sam) active (plain .0 .slots s)))
+      (go (eqb (changedOf (w .memory) s) 0) refl)
+    where
+      go : (t : Bool) → eqb (changedOf (w .memory) s) 0 ≡ t
+          → Invariant (worldOf (cond t (committed (w .memory) s) (withPending (w .memory) (Commit s 0 (commitDue (w .memory) s)))) (w .disk) (cond t (w .ledger) (withCounting (w .ledger) (countingOf s 0))))
+      go true e = ended (eqb-true (changedOf (w .memory) s) 0 e)
+      go false e = begun (commitDue (w .memory) s)
+
+pub commit-keeps : (w : World) (s : ℕ) → Invariant w → Invariant (step (commitCall s) w)
+unfolding step commitMemory commitAnswer entered commitError slotOutOfRange slotInactive slotActive
+commit-keeps w s i =
+    call-keeps w (commitError (w .memory) s) (committing (w .memory) s) _ (stores-number (commitError (w .memory) s) (commitDue (w .memory) s)) i
+    (λ e.
+      let n = first-none _ e in
+      committing-keeps w s i (is-valid (w .memory) (n .0)) (is-nothing (w .memory) (n .1 .0)) (leb-false 8 s (n .1 .1 .0))
+      (not-false (isActive (slotAt (w .memory) s .state)) (n .1 .1 .1 .0)))
