@@ -12,3 +12,6 @@ pub mod Allocate
 pub mod Count
 pub mod Committed
 pub mod Commit
+pub mod Small
+pub mod CommitDisk
+pub mod StoreCommit

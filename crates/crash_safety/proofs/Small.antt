@@ -1,0 +1,106 @@
+-- Every disk word fits 32 bits, and so does every value that a store writes.
+use Prim.Native.Nat.{ℕ, zero, suc, _+_, _*_, _^_, _≤_, _<_}
+use native.Mathlib.Decide.{ℕ-discrete}
+use native.Mathlib.Nat.{lt-of-lt-of-le}
+use native.Mathlib.Omega.{arith}
+use mathlib.Core.Path.{_≡_, refl, sym, ap, _∙_, subst}
+use mathlib.Core.Bool.{Bool, true, false, cond}
+use mathlib.Core.List.{List, [], _∷_, _++_, map}
+use lib.ListN.{length, getD, set, take, drop, List·getD-eq-default, length-set}
+use lib.Seq.{getD-set-same, getD-set-other, set-out, getD-take, getD-drop}
+use lib.Dec.{eqb}
+use Rattle.bitmap.proofs.Laws.Bits.{below-or-from}
+use mathlib.Core.Logic.{⊎-elim}
+use Rattle.model.specs.Stores.{Store, writes, changesFrom, changes, logStores, onDisk, mendStores, commitStores, _≔_}
+use Rattle.model.specs.Disk.{diskBitmap, entriesIn, logEntries, durable}
+use Rattle.model.proofs.Laws.Entries.{Places}
+use Rattle.crash_safety.proofs.Invariant.{Small}
+
+-- every value of a list of stores fits
+abbrev pub SmallStores : List Store → Type 0
+SmallStores [] = Unit {0}
+SmallStores (store ∷ stores) = (store .value < 2 ^ 32) × SmallStores stores
+
+set-small : (words : List ℕ) (place value : ℕ) → value < 2 ^ 32 → Small words → Small (set words place value)
+set-small words place value v small k = go (ℕ-discrete k place)
+  where
+    go : Dec (k ≡ place) → getD (set words place value) k 0 < 2 ^ 32
+    go (yes e) =
+        ⊎-elim
+        (λ (h : place < length words). subst (λ (n : ℕ). n < 2 ^ 32) (sym (ap (λ (x : ℕ). getD (set words place value) x 0) e ∙ getD-set-same words place value 0 h)) v)
+        (λ (h : length words ≤ place). subst (λ (l : List ℕ). getD l k 0 < 2 ^ 32) (sym (set-out words place value h)) (small k))
+        (below-or-from place (length words))
+    go (no n) = subst (λ (x : ℕ). x < 2 ^ 32) (sym (getD-set-other words place k value 0 n)) (small k)
+
+pub writes-small : (stores : List Store) (words : List ℕ) → SmallStores stores → Small words → Small (writes stores words)
+unfolding writes
+writes-small [] words s small = small
+writes-small (store ∷ stores) words s small = writes-small stores (set words (store .place) (store .value)) (s .1) (set-small words (store .place) (store .value) (s .0) small)
+
+pub take-small : (k : ℕ) (stores : List Store) → SmallStores stores → SmallStores (take k stores)
+take-small zero stores s = tt
+take-small (suc k) [] s = tt
+take-small (suc k) (store ∷ stores) s = (s .0, take-small k stores (s .1))
+
+pub drop-small : (k : ℕ) (stores : List Store) → SmallStores stores → SmallStores (drop k stores)
+drop-small zero stores s = s
+drop-small (suc k) [] s = tt
+drop-small (suc k) (store ∷ stores) s = drop-small k stores (s .1)
+
+append-small : (stores others : List Store) → SmallStores stores → SmallStores others → SmallStores (stores ++ others)
+append-small [] others s o = o
+append-small (store ∷ stores) others s o = (s .0, append-small stores others (s .1) o)
+
+onDisk-small : (entries : List Store) → SmallStores entries → SmallStores (map onDisk entries)
+onDisk-small [] s = tt
+onDisk-small (entry ∷ entries) s = (s .0, onDisk-small entries (s .1))
+
+pub mend-small : (entries : List Store) → SmallStores entries → SmallStores (mendStores entries)
+unfolding mendStores
+mend-small entries s = append-small (map onDisk entries) _ (onDisk-small entries s) (omega arith, tt)
+
+log-small : (at : ℕ) (entries : List Store) → Places 128 entries → SmallStores entries → SmallStores (logStores at entries)
+unfolding logStores
+log-small at [] p s = tt
+log-small at (entry ∷ entries) p s = (omega (arith, p .0), (s .0, log-small (at + 2) entries (p .1) (s .1)))
+
+pub commit-small : (entries : List Store) → Places 128 entries → length entries ≤ 128 → SmallStores entries → SmallStores (commitStores entries)
+unfolding commitStores
+commit-small entries p few s = append-small (logStores 130 entries) _ (log-small 130 entries p s) (omega arith, mend-small entries s)
+
+-- the entries of small words
+pub changes-small : (k : ℕ) (old new : List ℕ) → Small new → SmallStores (changesFrom k old new)
+unfolding changesFrom
+changes-small k [] new small = tt
+changes-small k (o ∷ old) [] small = tt
+changes-small k (o ∷ old) (n ∷ new) small = go (eqb o n) (changes-small (suc k) old new (λ j. small (suc j)))
+  where
+    go : (t : Bool) → SmallStores (changesFrom (suc k) old new) → SmallStores (cond t (changesFrom (suc k) old new) (k ≔ n ∷ changesFrom (suc k) old new))
+    go true rest = rest
+    go false rest = (small 0, rest)
+
+pub entriesIn-small : (n : ℕ) (words : List ℕ) → Small words → SmallStores (entriesIn n words)
+unfolding entriesIn
+entriesIn-small zero words small = tt
+entriesIn-small (suc n) [] small = tt
+entriesIn-small (suc n) (x ∷ []) small = tt
+entriesIn-small (suc n) (x ∷ y ∷ words) small = (small 1, entriesIn-small n words (λ j. small (suc (suc j))))
+
+-- parts of small words
+pub small-drop : (n : ℕ) (words : List ℕ) → Small words → Small (drop n words)
+small-drop n words small k = subst (λ (x : ℕ). x < 2 ^ 32) (sym (getD-drop n words k 0)) (small (n + k))
+
+small-take : (n : ℕ) (words : List ℕ) → Small words → Small (take n words)
+small-take zero words small k = omega arith
+small-take (suc n) [] small k = omega arith
+small-take (suc n) (x ∷ words) small zero = small zero
+small-take (suc n) (x ∷ words) small (suc k) = small-take n words (λ j. small (suc j)) k
+
+pub log-entries-small : (disk : List ℕ) → Small disk → SmallStores (logEntries disk)
+unfolding logEntries
+log-entries-small disk small = entriesIn-small (getD disk 1 0) (drop 130 disk) (small-drop 130 disk small)
+
+pub durable-small : (disk : List ℕ) → Small disk → Small (durable disk)
+unfolding durable
+durable-small disk small =
+    writes-small (logEntries disk) (diskBitmap disk) (log-entries-small disk small) (small-take 128 (drop 2 disk) (small-drop 2 disk small))

@@ -1,0 +1,19 @@
+//! The allocator's calls. Each tests the causes that name it in document 01's table, in number
+//! order, and a refused call changes nothing.
+
+mod allocate;
+mod deallocate;
+mod format;
+mod open;
+mod readiness;
+mod status;
+mod store;
+mod transaction;
+
+pub use allocate::{allocate, MAX_COUNT};
+pub use deallocate::deallocate;
+pub use format::format;
+pub use open::{open, Opened};
+pub use status::{status, Status};
+pub use store::store;
+pub use transaction::{commit, precommit, rollback, start};

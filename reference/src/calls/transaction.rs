@@ -1,0 +1,47 @@
+//! The course of a transaction: start, precommit, commit, rollback.
+
+use super::readiness::{active_slot, any_slot, open_slot};
+use crate::bitmap::{majority, Bitmap};
+use crate::error::{require, Error};
+use crate::memory::{Memory, Pending, Slot, SlotState};
+use crate::store_list::StoreList;
+
+/// Opens a transaction in an idle slot, on a copy of SAM.
+pub fn start(memory: &mut Memory, slot: u32) -> Result<(), Error> {
+    let index = any_slot(memory, slot)?;
+    require(memory.slots[index].state == SlotState::Idle, Error::SlotNotIdle)?;
+    memory.slots[index] = Slot { state: SlotState::Open, tam: memory.sam };
+    Ok(())
+}
+
+/// Ends a transaction's touches. No bitmap changes: document 01 departs from row 6 of table 1.
+pub fn precommit(memory: &mut Memory, slot: u32) -> Result<(), Error> {
+    let index = open_slot(memory, slot)?;
+    memory.slots[index].state = SlotState::Precommitted;
+    Ok(())
+}
+
+/// Begins a commit and gives the stores due. One that changes no word ends here, with 0.
+pub fn commit(memory: &mut Memory, slot: u32) -> Result<u32, Error> {
+    let index = active_slot(memory, slot)?;
+    let Slot { state, tam } = &memory.slots[index];
+    require(*state == SlotState::Precommitted, Error::SlotNotPrecommitted)?;
+    let changed = memory.changed_words(tam);
+    if changed == 0 {
+        memory.slots[index] = Slot::IDLE;
+        return Ok(0);
+    }
+    let due = StoreList::due_for(changed);
+    memory.pending = Pending::Commit { slot, done: 0, due };
+    Ok(due)
+}
+
+/// Undoes a transaction: COM becomes the majority of COM, SAM and the complement of TAM (table 2).
+pub fn rollback(memory: &mut Memory, slot: u32) -> Result<(), Error> {
+    let index = active_slot(memory, slot)?;
+    let tam = &memory.slots[index].tam;
+    memory.com =
+        Bitmap::combine(&memory.com, &memory.sam, tam, |com, sam, tam| majority(com, sam, !tam));
+    memory.slots[index] = Slot::IDLE;
+    Ok(())
+}

@@ -1,0 +1,195 @@
+//! The choice of the next call by the state that the allocator is in.
+
+use super::{History, Phase};
+use crate::bitmap::Bitmap;
+use crate::line::{Line, Operation};
+use crate::memory::{Memory, Pending, SlotState};
+
+/// Block counts near which words and limits end.
+const EDGE_BLOCKS: [u32; 17] =
+    [1, 2, 31, 32, 33, 63, 64, 65, 96, 127, 129, 1000, 4063, 4064, 4065, 4095, 4096];
+const STRAY_IN: u32 = 25;
+const CRASH_IN: u32 = 600;
+const OPEN_IN: u32 = 900;
+const STATUS_IN: u32 = 40;
+const REFORMAT_IN: u32 = 4000;
+const NEW_PHASE_IN: u32 = 200;
+const UNTOUCHED_IN: u32 = 20;
+
+const STRAY_OPERATIONS: [Operation; 12] = [
+    Operation::Format,
+    Operation::Start,
+    Operation::Allocate,
+    Operation::Allocate,
+    Operation::Deallocate,
+    Operation::Deallocate,
+    Operation::Deallocate,
+    Operation::Precommit,
+    Operation::Commit,
+    Operation::Rollback,
+    Operation::Store,
+    Operation::Status,
+];
+
+fn line(operation: Operation, slot: u32, number: u32) -> Line {
+    Line { operation, slot, number }
+}
+
+impl History {
+    pub(super) fn choose(&mut self) -> Line {
+        let reformat = self.shape.reformats && self.random.one_in(REFORMAT_IN);
+        if reformat || !self.formatted {
+            self.choose_format()
+        } else if self.random.one_in(STRAY_IN) {
+            self.choose_stray()
+        } else if self.disk_is_foreign && self.random.one_in(2) {
+            self.random.choose(&[line(Operation::Store, 0, 0), line(Operation::Open, 0, 0)])
+        } else if self.bench.memory == Memory::ZEROS {
+            self.choose_after_crash()
+        } else {
+            match self.bench.memory.pending {
+                Pending::Nothing => self.choose_at_rest(),
+                Pending::Commit { done, .. } | Pending::Recovery { done, .. } => {
+                    self.choose_in_pending_work(done)
+                }
+            }
+        }
+    }
+
+    fn choose_format(&mut self) -> Line {
+        let blocks = match self.shape.blocks {
+            0 if self.random.one_in(2) => self.random.choose(&EDGE_BLOCKS),
+            0 => 1 + self.random.below(Bitmap::MAX_BLOCKS),
+            blocks => blocks,
+        };
+        line(Operation::Format, 0, blocks)
+    }
+
+    /// Any call at any time, often out of range. It never ends the memory's life, so that long
+    /// commits get through.
+    fn choose_stray(&mut self) -> Line {
+        let operation = self.random.choose(&STRAY_OPERATIONS);
+        let slot = match self.random.below(6) {
+            0 => self.random.choose(&[8, 9, 100, 65_536, 99_999]),
+            1 => self.random.below(Memory::SLOTS as u32),
+            _ => self.random.below(self.phase.slots),
+        };
+        let number = match operation {
+            Operation::Format => self.random.choose(&[0, 4097, 4128, 65_537, 99_999]),
+            Operation::Allocate => self.random.choose(&[0, 1, 2, 63, 64, 65, 66, 99_999]),
+            Operation::Deallocate => self.choose_stray_block(),
+            _ => 0,
+        };
+        line(operation, slot, number)
+    }
+
+    fn choose_stray_block(&mut self) -> u32 {
+        let Memory { blocks, sam, com, .. } = &self.bench.memory;
+        let (blocks, being_freed) = (*blocks, and_words(sam, &complement(com)));
+        match self.random.below(4) {
+            0 => self.random.choose(&[blocks, blocks + 1, 4095, 4096, 65_536, 99_999]),
+            1 | 2 => self.choose_block(&being_freed).unwrap_or(0),
+            _ => self.random.below(blocks),
+        }
+    }
+
+    fn choose_after_crash(&mut self) -> Line {
+        match self.random.below(12) {
+            0 => self.choose_stray(),
+            1 => line(Operation::Crash, 0, 0),
+            _ => line(Operation::Open, 0, 0),
+        }
+    }
+
+    fn choose_in_pending_work(&mut self, done: u32) -> Line {
+        if done < self.interrupt_at {
+            line(Operation::Store, 0, 0)
+        } else if self.random.one_in(3) {
+            line(Operation::Open, 0, 0)
+        } else {
+            line(Operation::Crash, 0, 0)
+        }
+    }
+
+    fn choose_at_rest(&mut self) -> Line {
+        if self.random.one_in(NEW_PHASE_IN) {
+            self.phase = Phase::random(&mut self.random);
+        }
+        if self.random.one_in(CRASH_IN) {
+            line(Operation::Crash, 0, 0)
+        } else if self.random.one_in(OPEN_IN) {
+            line(Operation::Open, 0, 0)
+        } else if self.random.one_in(STATUS_IN) {
+            line(Operation::Status, 0, 0)
+        } else {
+            self.choose_in_transaction()
+        }
+    }
+
+    fn choose_in_transaction(&mut self) -> Line {
+        let slot = self.random.below(self.phase.slots);
+        let touches_left = &mut self.touches_left[slot as usize];
+        match self.bench.memory.slots[slot as usize].state {
+            SlotState::Idle => {
+                *touches_left = match self.random.below(UNTOUCHED_IN) {
+                    0 => 0,
+                    _ => 1 + self.random.below(self.phase.most_touches),
+                };
+                line(Operation::Start, slot, 0)
+            }
+            SlotState::Open if *touches_left > 0 => {
+                *touches_left -= 1;
+                self.choose_touch(slot)
+            }
+            SlotState::Open => {
+                let operation =
+                    if self.random.one_in(10) { Operation::Rollback } else { Operation::Precommit };
+                line(operation, slot, 0)
+            }
+            SlotState::Precommitted => {
+                let operation =
+                    if self.random.one_in(10) { Operation::Rollback } else { Operation::Commit };
+                line(operation, slot, 0)
+            }
+        }
+    }
+
+    /// An allocate or a deallocate, whichever the phase wants and the volume has blocks for.
+    fn choose_touch(&mut self, slot: u32) -> Line {
+        let Memory { sam, com, .. } = self.bench.memory;
+        let memory = &self.bench.memory;
+        let available: u32 =
+            (0..Bitmap::WORDS).map(|word| memory.available_in(word).count_ones()).sum();
+        let wants_free = self.random.below(100) < self.phase.free_percent;
+        let block = self.choose_block(&and_words(&sam, &com));
+        match block {
+            Some(block) if wants_free || available == 0 => line(Operation::Deallocate, slot, block),
+            _ if available == 0 => line(Operation::Precommit, slot, 0),
+            _ => {
+                let count = 1 + self.random.below(self.phase.most_blocks);
+                let beyond = self.random.one_in(8);
+                let count = if beyond { count } else { count.min(available) };
+                line(Operation::Allocate, slot, count)
+            }
+        }
+    }
+
+    /// A block among those with a 1, if there is one: often a low one, which is soon granted anew.
+    fn choose_block(&mut self, words: &[u32; Bitmap::WORDS]) -> Option<u32> {
+        let used_words = Bitmap::words_for(self.bench.memory.blocks);
+        let first = if self.random.one_in(4) { 0 } else { self.random.below(used_words) as usize };
+        let order = (first..Bitmap::WORDS).chain(0..first);
+        let word = order.into_iter().find(|word| words[*word] != 0)?;
+        let turn = self.random.below(Bitmap::WORD_BITS);
+        let bit = words[word].rotate_right(turn).trailing_zeros() + turn;
+        Some(word as u32 * Bitmap::WORD_BITS + bit % Bitmap::WORD_BITS)
+    }
+}
+
+fn and_words(one: &Bitmap, other: &Bitmap) -> [u32; Bitmap::WORDS] {
+    std::array::from_fn(|word| one.words[word] & other.words[word])
+}
+
+fn complement(bitmap: &Bitmap) -> Bitmap {
+    Bitmap { words: bitmap.words.map(|word| !word) }
+}

@@ -1,0 +1,32 @@
+//! A second block allocator, written from document 01 alone, against which another one is compared.
+
+mod agreement;
+mod bitmap;
+mod block_set;
+mod calls;
+mod disk;
+mod error;
+mod ledger;
+mod log;
+mod memory;
+mod random;
+mod store_list;
+mod validity;
+
+pub mod bench;
+pub mod history;
+pub mod line;
+pub mod line_reader;
+pub mod program;
+
+pub use bitmap::{majority, Bitmap};
+pub use block_set::BlockSet;
+pub use calls::{
+    allocate, commit, deallocate, format, open, precommit, rollback, start, status, store, Opened,
+    Status, MAX_COUNT,
+};
+pub use disk::{BITMAP_START, BLOCKS_POSITION, DISK_WORDS, LOG_LENGTH_POSITION, LOG_START};
+pub use error::Error;
+pub use ledger::{Call, Ledger};
+pub use memory::{Memory, Pending, Slot, SlotState};
+pub use random::Random;

@@ -1,0 +1,75 @@
+//! The allocator's memory: the bitmaps, the transaction slots and the pending work.
+
+use crate::bitmap::{majority, Bitmap};
+
+/// The state of a transaction slot, document 01's seat.
+#[derive(Clone, Copy, PartialEq, Eq, Debug)]
+pub enum SlotState {
+    Idle,
+    Open,
+    Precommitted,
+}
+
+/// A transaction slot with its bitmap, TAM.
+#[derive(Clone, Copy, PartialEq, Eq, Debug)]
+pub struct Slot {
+    pub state: SlotState,
+    pub tam: Bitmap,
+}
+
+impl Slot {
+    pub const IDLE: Slot = Slot { state: SlotState::Idle, tam: Bitmap::EMPTY };
+}
+
+/// The pending work, document 01's store work in hand, with its stores done and due.
+#[derive(Clone, Copy, PartialEq, Eq, Debug)]
+pub enum Pending {
+    Nothing,
+    Commit { slot: u32, done: u32, due: u32 },
+    Recovery { done: u32, due: u32 },
+}
+
+/// What the allocator keeps between calls. `blocks` is m.
+#[derive(Clone, PartialEq, Eq, Debug)]
+pub struct Memory {
+    pub blocks: u32,
+    pub sam: Bitmap,
+    pub com: Bitmap,
+    pub slots: [Slot; Memory::SLOTS],
+    pub pending: Pending,
+}
+
+impl Memory {
+    pub const SLOTS: usize = 8;
+
+    /// The memory of zeros, which a crash leaves. Its m is 0, so it isn't valid.
+    pub const ZEROS: Memory = Memory::opened(0, Bitmap::EMPTY, Pending::Nothing);
+
+    /// The memory that an open gives: all slots idle, COM equal to SAM.
+    pub const fn opened(blocks: u32, sam: Bitmap, pending: Pending) -> Memory {
+        Memory { blocks, sam, com: sam, slots: [Slot::IDLE; Memory::SLOTS], pending }
+    }
+
+    /// The slots that aren't idle.
+    pub fn active_slots(&self) -> impl Iterator<Item = &Slot> {
+        self.slots.iter().filter(|slot| slot.state != SlotState::Idle)
+    }
+
+    /// The blocks of one word with SAM 0 and COM 0, document 01's grantable ones.
+    pub fn available_in(&self, word: usize) -> u32 {
+        let used = self.sam.words[word] | self.com.words[word];
+        !used & Bitmap::volume_bits(self.blocks, word)
+    }
+
+    /// SAM as the commit of this transaction leaves it (table 3 of document 000).
+    pub fn sam_after_commit(&self, tam: &Bitmap) -> Bitmap {
+        Bitmap::combine(&self.sam, &self.com, tam, majority)
+    }
+
+    /// d, the number of SAM words that the commit of this transaction changes.
+    pub fn changed_words(&self, tam: &Bitmap) -> u32 {
+        let after = self.sam_after_commit(tam);
+        let words = after.words.iter().zip(&self.sam.words);
+        words.map(|(after, before)| u32::from(after != before)).sum()
+    }
+}

@@ -1,0 +1,69 @@
+//! The comparison of an allocator with the ledger, after every call of a history.
+
+use reference::bench::Bench;
+use reference::history::{History, Shape};
+use reference::line::{parse, Line, Operation};
+use reference::{open, store, Call, Error, Ledger, Memory, BITMAP_START, LOG_START};
+
+/// How an allocator takes a line in form.
+pub type Step = fn(&mut Bench, &Line) -> Result<u32, Error>;
+
+/// A history that stays within the premises of demand 3.
+pub fn history(seed: u64) -> History {
+    let shape = Shape { blocks: 0, malformed: false, reformats: false };
+    History::new(seed, shape).unwrap()
+}
+
+/// What the comparison finds wrong in the first lines of a history, if anything.
+pub fn fault_in_history(seed: u64, lines: usize, step: Step) -> Option<&'static str> {
+    let mut bench = Bench::new();
+    let mut ledger = Ledger::new();
+    history(seed).take(lines).find_map(|line| {
+        let line = parse(&line).unwrap();
+        let answer = step(&mut bench, &line);
+        record(&mut ledger, &line, answer, &bench.list);
+        fault(&bench, &ledger).or_else(|| invalid_memory(&bench))
+    })
+}
+
+fn record(ledger: &mut Ledger, line: &Line, answer: Result<u32, Error>, list: &[u32]) {
+    let lists = line.operation == Operation::Allocate && answer.is_ok();
+    ledger.record(&Call {
+        operation: line.operation,
+        slot: line.slot,
+        block: line.number,
+        accepted: answer.is_ok(),
+        listed: if lists { &list[..line.number as usize] } else { &[] },
+    });
+}
+
+/// Demand 3 after one call: it opens a copy of the disk and makes the stores due.
+fn fault(bench: &Bench, ledger: &Ledger) -> Option<&'static str> {
+    if !ledger.has_single_holders() {
+        return Some("a block has two holders");
+    }
+    let mut opened = open(&bench.disk);
+    let Ok(due) = opened.answer else {
+        return Some("an open is refused");
+    };
+    if !ledger.allocated().equals_words(&opened.memory.sam.words) {
+        return Some("an open gives another SAM");
+    }
+    let mut disk = bench.disk;
+    if (0..due).rev().any(|left| store(&mut opened.memory, &mut disk) != Ok(left)) {
+        return Some("a store of the recovery is refused");
+    }
+    if !ledger.allocated().equals_words(&disk[BITMAP_START..LOG_START]) {
+        return Some("the recovery leaves another bitmap on the disk");
+    }
+    match store(&mut opened.memory, &mut disk) {
+        Err(Error::NothingPending) => None,
+        _ => Some("the recovery has another number of stores"),
+    }
+}
+
+/// An invalid memory refuses every call and so hides from the ledger. Only a crash may leave one.
+fn invalid_memory(bench: &Bench) -> Option<&'static str> {
+    let expected = bench.memory == Memory::ZEROS || bench.memory.is_valid();
+    (!expected).then_some("the memory isn't valid")
+}

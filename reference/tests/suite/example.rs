@@ -1,0 +1,84 @@
+//! The example of document 01, through the built program.
+
+use std::io::Write;
+use std::process::{Command, Output, Stdio};
+
+const INPUT: &str = "op=format seat=0 n=4
+op=open seat=0 n=0
+op=start seat=1 n=0
+op=alloc seat=1 n=2
+op=pre seat=1 n=0
+op=commit seat=1 n=0
+op=store seat=0 n=0
+op=store seat=0 n=0
+op=store seat=0 n=0
+op=cut seat=0 n=0
+op=stat seat=0 n=0
+op=open seat=0 n=0
+";
+
+const OUTPUT: &str = "call=1 answer=0 value=0
+call=2 answer=0 value=0
+call=3 answer=0 value=0
+call=4 answer=0 value=0
+call=5 answer=0 value=0
+call=6 answer=0 value=5
+call=7 answer=0 value=4
+call=8 answer=0 value=3
+call=9 answer=0 value=2
+call=10 answer=0 value=0
+call=11 answer=1 value=0
+call=12 answer=0 value=2
+";
+
+fn run_program(arguments: &[&str], input: &str) -> Output {
+    let mut program = Command::new(env!("CARGO_BIN_EXE_reference"))
+        .args(arguments)
+        .stdin(Stdio::piped())
+        .stdout(Stdio::piped())
+        .stderr(Stdio::piped())
+        .spawn()
+        .unwrap();
+    program.stdin.take().unwrap().write_all(input.as_bytes()).unwrap();
+    program.wait_with_output().unwrap()
+}
+
+#[test]
+fn the_example_of_document_01() {
+    let output = run_program(&["bench"], INPUT);
+    assert!(output.status.success());
+    assert_eq!(String::from_utf8(output.stdout).unwrap(), OUTPUT);
+}
+
+#[test]
+fn the_program_prints_a_history_that_depends_on_its_arguments_alone() {
+    let print = |arguments: &[&str]| {
+        let output = run_program(arguments, "");
+        assert!(output.status.success());
+        output.stdout
+    };
+    let history = print(&["history", "5", "400", "33"]);
+    assert!(history.starts_with(b"op=format seat="));
+    assert_eq!(history.iter().filter(|byte| **byte == b'\n').count(), 400);
+    assert_eq!(history, print(&["history", "5", "400", "33"]));
+    assert_ne!(history, print(&["history", "6", "400", "33"]));
+    assert_ne!(history, print(&["history", "5", "400", "33", "--malformed"]));
+}
+
+#[test]
+fn the_program_refuses_other_arguments() {
+    let cases: [&[&str]; 6] = [
+        &[],
+        &["benches"],
+        &["history", "1", "2"],
+        &["history", "1", "2", "4097"],
+        &["history", "1", "2", "-1"],
+        &["history", "1", "2", "3", "--deformed"],
+    ];
+    for arguments in cases {
+        let output = run_program(arguments, "");
+        assert!(!output.status.success(), "{arguments:?}");
+        assert!(output.stdout.is_empty(), "{arguments:?}");
+        assert!(output.stderr.starts_with(b"usage: "), "{arguments:?}");
+    }
+}

@@ -1,0 +1,95 @@
+//! A memory, a disk and a list to make calls on.
+
+use reference::{
+    allocate, commit, deallocate, format, open, precommit, start, store, Error, Memory, DISK_WORDS,
+    MAX_COUNT,
+};
+
+/// What stands in the list before an allocate, so that places written can be told from others.
+pub const UNWRITTEN: u32 = 0xdead_beef;
+
+#[derive(Clone, PartialEq, Debug)]
+pub struct State {
+    pub memory: Memory,
+    pub disk: Vec<u32>,
+    pub list: Vec<u32>,
+}
+
+impl State {
+    /// A fresh volume, opened.
+    pub fn opened(blocks: u32) -> State {
+        let mut disk = vec![UNWRITTEN; DISK_WORDS];
+        assert_eq!(format(&mut disk, blocks), Ok(()));
+        let opened = open(&disk);
+        assert_eq!(opened.answer, Ok(0));
+        State { memory: opened.memory, disk, list: vec![UNWRITTEN; MAX_COUNT as usize] }
+    }
+
+    pub fn start(&mut self, slot: u32) {
+        assert_eq!(start(&mut self.memory, slot), Ok(()));
+    }
+
+    /// Allocates any number of blocks, in as many calls as it takes.
+    pub fn allocate(&mut self, slot: u32, count: u32) -> Vec<u32> {
+        let mut listed = Vec::new();
+        while (listed.len() as u32) < count {
+            let part = (count - listed.len() as u32).min(MAX_COUNT);
+            assert_eq!(allocate(&mut self.memory, slot, part, &mut self.list), Ok(()));
+            listed.extend_from_slice(&self.list[..part as usize]);
+        }
+        listed
+    }
+
+    pub fn free(&mut self, slot: u32, block: u32) {
+        assert_eq!(deallocate(&mut self.memory, slot, block), Ok(()));
+    }
+
+    pub fn precommit(&mut self, slot: u32) {
+        assert_eq!(precommit(&mut self.memory, slot), Ok(()));
+    }
+
+    /// Precommits and begins the commit, and gives the stores due.
+    pub fn begin_commit(&mut self, slot: u32) -> u32 {
+        self.precommit(slot);
+        commit(&mut self.memory, slot).unwrap()
+    }
+
+    /// Precommits, commits and makes all stores.
+    pub fn commit(&mut self, slot: u32) {
+        let due = self.begin_commit(slot);
+        self.stores(due);
+    }
+
+    /// Makes this many stores.
+    pub fn stores(&mut self, count: u32) {
+        for _ in 0..count {
+            store(&mut self.memory, &mut self.disk).unwrap();
+        }
+    }
+
+    /// Loses the memory and opens the disk anew, and gives the stores due.
+    pub fn crash_and_open(&mut self) -> u32 {
+        let opened = open(&self.disk);
+        self.memory = opened.memory;
+        opened.answer.unwrap()
+    }
+}
+
+/// Makes the call on a copy of the state: it is refused with this error and leaves all as it was.
+pub fn assert_refused<Answer: std::fmt::Debug>(
+    state: &State,
+    error: Error,
+    call: impl FnOnce(&mut State) -> Result<Answer, Error>,
+) {
+    let mut after = state.clone();
+    assert_eq!(call(&mut after).err(), Some(error));
+    assert_eq!(after, *state);
+}
+
+/// Makes the call on a copy of the state: it is accepted.
+pub fn assert_accepted<Answer: std::fmt::Debug>(
+    state: &State,
+    call: impl FnOnce(&mut State) -> Result<Answer, Error>,
+) {
+    assert_eq!(call(&mut state.clone()).err(), None);
+}

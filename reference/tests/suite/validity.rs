@@ -1,0 +1,195 @@
+//! The validity of a memory, set against the rules of document 01 read block by block.
+
+use reference::bench::Bench;
+use reference::history::{History, Shape};
+use reference::{Bitmap, Memory, Pending, Random, Slot, SlotState};
+
+fn bit(bitmap: &Bitmap, block: usize) -> bool {
+    bitmap.words[block / 32] >> (block % 32) & 1 == 1
+}
+
+/// Document 01: "Memory is fit if", one block at a time.
+fn is_valid_by_blocks(memory: &Memory) -> bool {
+    (1..=4096).contains(&memory.blocks)
+        && (0..4096).all(|block| block_is_valid(memory, block))
+        && pending_is_valid(memory)
+}
+
+fn block_is_valid(memory: &Memory, block: usize) -> bool {
+    let (sam, com) = (bit(&memory.sam, block), bit(&memory.com, block));
+    let in_volume = block < memory.blocks as usize;
+    let mut touched_by = 0;
+    for slot in &memory.slots {
+        let tam = bit(&slot.tam, block);
+        let idle = slot.state == SlotState::Idle;
+        if tam && (idle || !in_volume) {
+            return false;
+        }
+        touched_by += u32::from(!idle && tam != sam);
+    }
+    (in_volume || (!sam && !com)) && touched_by == u32::from(sam != com)
+}
+
+fn pending_is_valid(memory: &Memory) -> bool {
+    let words = (memory.blocks - 1) / 32 + 1;
+    match memory.pending {
+        Pending::Nothing => true,
+        Pending::Commit { slot, done, due } => {
+            if slot > 7 || memory.slots[slot as usize].state != SlotState::Precommitted {
+                return false;
+            }
+            let changed = changed_by_blocks(memory, &memory.slots[slot as usize].tam);
+            changed >= 1 && due == 3 * changed + 2 && done < due
+        }
+        Pending::Recovery { done, due } => {
+            let all_idle = memory.slots.iter().all(|slot| slot.state == SlotState::Idle);
+            all_idle && memory.com == memory.sam && due >= 2 && due <= words + 1 && done < due
+        }
+    }
+}
+
+/// The words with a block that the majority of SAM, COM and TAM changes.
+fn changed_by_blocks(memory: &Memory, tam: &Bitmap) -> u32 {
+    let changes = |block: usize| {
+        let (sam, com) = (bit(&memory.sam, block), bit(&memory.com, block));
+        let ones = u32::from(sam) + u32::from(com) + u32::from(bit(tam, block));
+        (ones >= 2) != sam
+    };
+    (0..128).filter(|word| (32 * word..32 * word + 32).any(changes)).count() as u32
+}
+
+fn damage(random: &mut Random, memory: &mut Memory) {
+    let slot = random.below(8) as usize;
+    let number = random.choose(&[0, 1, 2, 3, 5, 7, 8, 9, 129, 386, u32::MAX - 1, u32::MAX]);
+    match random.below(10) {
+        0 => flip(random, &mut memory.sam),
+        1 => flip(random, &mut memory.com),
+        2 => flip(random, &mut memory.slots[slot].tam),
+        3 => memory.blocks = random.choose(&[0, 1, 32, 33, 4095, 4096, 4097, u32::MAX]),
+        4 => memory.slots[slot].state = SlotState::Precommitted,
+        5 => memory.slots[slot] = Slot::IDLE,
+        6 => memory.slots[slot].state = SlotState::Open,
+        7 => memory.pending = Pending::Recovery { done: random.below(3), due: number },
+        8 => {
+            let slot = random.choose(&[slot as u32, number]);
+            memory.pending = Pending::Commit { slot, done: random.below(6), due: number };
+        }
+        _ => match &mut memory.pending {
+            Pending::Nothing => {}
+            Pending::Commit { done, due, .. } | Pending::Recovery { done, due } => {
+                *random.choose_mut(done, due) = number;
+            }
+        },
+    }
+}
+
+trait ChooseMut {
+    fn choose_mut<'a>(&mut self, one: &'a mut u32, other: &'a mut u32) -> &'a mut u32;
+}
+
+impl ChooseMut for Random {
+    fn choose_mut<'a>(&mut self, one: &'a mut u32, other: &'a mut u32) -> &'a mut u32 {
+        if self.one_in(2) {
+            one
+        } else {
+            other
+        }
+    }
+}
+
+fn flip(random: &mut Random, bitmap: &mut Bitmap) {
+    let word = random.choose(&[0, 0, 1, 127]);
+    bitmap.words[word] ^= 1 << random.choose(&[0, 1, 2, 30, 31]);
+}
+
+#[test]
+fn validity_is_document_01s_read_block_by_block() {
+    let mut random = Random::new(1);
+    let mut counts = [0; 2];
+    for seed in 0..60 {
+        let blocks = random.choose(&[1, 4, 31, 33, 64, 100, 4095, 4096]);
+        let shape = Shape { blocks, malformed: false, reformats: false };
+        let mut bench = Bench::new();
+        for line in History::new(seed, shape).unwrap().take(120) {
+            let _ = bench.run(&line);
+            let mut memory = bench.memory.clone();
+            for _ in 0..random.below(3) {
+                damage(&mut random, &mut memory);
+            }
+            let valid = is_valid_by_blocks(&memory);
+            assert_eq!(memory.is_valid(), valid, "{memory:?}");
+            counts[usize::from(valid)] += 1;
+        }
+    }
+    assert!(counts[0] > 2000 && counts[1] > 2000, "{counts:?}");
+}
+
+/// A memory with slot 1 precommitted, which has taken blocks in two words.
+fn precommitted() -> Memory {
+    let mut memory = Memory::opened(40, Bitmap::EMPTY, Pending::Nothing);
+    memory.com.words[..2].copy_from_slice(&[4, 8]);
+    memory.slots[1] = Slot { state: SlotState::Precommitted, tam: memory.com };
+    memory
+}
+
+fn assert_pending(memory: &Memory, pending: Pending, valid: bool) {
+    let memory = Memory { pending, ..memory.clone() };
+    assert_eq!(memory.is_valid(), valid, "{pending:?}");
+}
+
+#[test]
+fn a_pending_commit_has_its_slot_and_its_numbers() {
+    let memory = precommitted();
+    for (slot, done, due, valid) in [
+        (1, 0, 8, true),
+        (1, 7, 8, true),
+        (1, 8, 8, false),
+        (1, 0, 5, false),
+        (1, 0, 9, false),
+        (0, 0, 8, false),
+        (8, 0, 8, false),
+        (u32::MAX, 0, 8, false),
+        (1, u32::MAX, u32::MAX, false),
+    ] {
+        assert_pending(&memory, Pending::Commit { slot, done, due }, valid);
+    }
+    let mut open = memory.clone();
+    open.slots[1].state = SlotState::Open;
+    assert_pending(&open, Pending::Nothing, true);
+    assert_pending(&open, Pending::Commit { slot: 1, done: 0, due: 8 }, false);
+}
+
+#[test]
+fn a_pending_commit_changes_a_word() {
+    let mut memory = Memory::opened(40, Bitmap::EMPTY, Pending::Nothing);
+    memory.slots[1].state = SlotState::Precommitted;
+    assert_pending(&memory, Pending::Nothing, true);
+    assert_pending(&memory, Pending::Commit { slot: 1, done: 0, due: 2 }, false);
+}
+
+#[test]
+fn a_pending_recovery_has_idle_slots_and_its_numbers() {
+    let memory = Memory::opened(40, Bitmap::EMPTY, Pending::Nothing);
+    for (done, due, valid) in [
+        (0, 0, false),
+        (0, 1, false),
+        (0, 2, true),
+        (1, 2, true),
+        (2, 2, false),
+        (2, 3, true),
+        (0, 4, false),
+        (0, u32::MAX, false),
+    ] {
+        assert_pending(&memory, Pending::Recovery { done, due }, valid);
+    }
+    let mut active = memory.clone();
+    active.slots[3].state = SlotState::Open;
+    assert_pending(&active, Pending::Nothing, true);
+    assert_pending(&active, Pending::Recovery { done: 0, due: 2 }, false);
+}
+
+#[test]
+fn the_memory_of_zeros_is_not_valid() {
+    assert!(!Memory::ZEROS.is_valid());
+    assert!(Memory { blocks: 1, ..Memory::ZEROS }.is_valid());
+}

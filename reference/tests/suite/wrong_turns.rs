@@ -1,0 +1,118 @@
+//! The wrong turns of document 01: the comparison with the ledger notices an allocator that takes
+//! one. Each is the right allocator with one thing undone after the call.
+
+use crate::comparison::{fault_in_history, Step};
+use reference::bench::Bench;
+use reference::line::{Line, Operation};
+use reference::{majority, Bitmap, Error, Pending, SlotState, LOG_LENGTH_POSITION, LOG_START};
+
+/// The faults found in 100 histories, each once.
+fn faults(step: Step) -> Vec<&'static str> {
+    let mut faults: Vec<_> =
+        (0..100).filter_map(|seed| fault_in_history(seed, 300, step)).collect();
+    faults.sort_unstable();
+    faults.dedup();
+    faults
+}
+
+/// The commit formula used for rollback, as printed.
+fn rollback_as_printed(bench: &mut Bench, line: &Line) -> Result<u32, Error> {
+    let before = bench.memory.clone();
+    let answer = bench.call(line);
+    if line.operation == Operation::Rollback && answer.is_ok() {
+        let tam = &before.slots[line.slot as usize].tam;
+        bench.memory.com = Bitmap::combine(&before.com, &before.sam, tam, majority);
+    }
+    answer
+}
+
+/// Other transactions' bitmaps left old at a commit.
+fn other_tams_left_old(bench: &mut Bench, line: &Line) -> Result<u32, Error> {
+    let before = bench.memory.slots;
+    let answer = bench.call(line);
+    if line.operation == Operation::Store {
+        let active = |slot: usize| bench.memory.slots[slot].state != SlotState::Idle;
+        let active: Vec<usize> = (0..8).filter(|slot| active(*slot)).collect();
+        active.into_iter().for_each(|slot| bench.memory.slots[slot].tam = before[slot].tam);
+    }
+    answer
+}
+
+/// The commit point written before the last log entry: the two stores change places.
+fn early_commit_point(bench: &mut Bench, line: &Line) -> Result<u32, Error> {
+    let Pending::Commit { slot, done, due } = bench.memory.pending else {
+        return bench.call(line);
+    };
+    let changed = (due - 2) / 3;
+    let last_log_word = LOG_START + 2 * changed as usize - 1;
+    let contents = bench.disk[last_log_word];
+    if line.operation == Operation::Store && done == 2 * changed {
+        let memory = &bench.memory;
+        let tam = &memory.slots[slot as usize].tam;
+        let word = bench.disk[last_log_word - 1] as usize;
+        let words = [&memory.sam, &memory.com, tam].map(|bitmap| bitmap.words[word]);
+        bench.disk[last_log_word] = majority(words[0], words[1], words[2]);
+        bench.disk[LOG_LENGTH_POSITION] = 0;
+    }
+    let answer = bench.call(line);
+    if line.operation == Operation::Store && done == 2 * changed - 1 {
+        bench.disk[last_log_word] = contents;
+        bench.disk[LOG_LENGTH_POSITION] = changed;
+    }
+    answer
+}
+
+/// A block granted whose release isn't committed.
+fn release_granted_early(bench: &mut Bench, line: &Line) -> Result<u32, Error> {
+    let being_freed = |block: &u32| bench.memory.sam.has(*block) && !bench.memory.com.has(*block);
+    let block = (0..bench.memory.blocks).find(being_freed);
+    let answer = bench.call(line);
+    if let (Operation::Allocate, Ok(first), Some(block)) = (line.operation, answer, block) {
+        let (word, bit) = (block as usize / 32, 1 << (block % 32));
+        bench.memory.com.clear(first);
+        bench.memory.com.words[word] |= bit;
+        let tam = &mut bench.memory.slots[line.slot as usize].tam;
+        tam.clear(first);
+        tam.words[word] |= bit;
+        bench.list[0] = block;
+    }
+    answer
+}
+
+/// A commit that is in force only with its last store: the log is never replayed.
+fn log_not_replayed(bench: &mut Bench, line: &Line) -> Result<u32, Error> {
+    if matches!(line.operation, Operation::Crash | Operation::Open) {
+        bench.disk[LOG_LENGTH_POSITION] = 0;
+    }
+    bench.call(line)
+}
+
+#[test]
+fn the_right_allocator_has_no_fault() {
+    assert!(faults(Bench::call).is_empty());
+}
+
+#[test]
+fn the_comparison_notices_the_printed_formula_for_rollback() {
+    assert_eq!(faults(rollback_as_printed), ["the memory isn't valid"]);
+}
+
+#[test]
+fn the_comparison_notices_tams_left_old() {
+    assert_eq!(faults(other_tams_left_old), ["the memory isn't valid"]);
+}
+
+#[test]
+fn the_comparison_notices_an_early_commit_point() {
+    assert!(faults(early_commit_point).contains(&"an open gives another SAM"));
+}
+
+#[test]
+fn the_comparison_notices_a_release_granted_early() {
+    assert_eq!(faults(release_granted_early), ["a block has two holders"]);
+}
+
+#[test]
+fn the_comparison_notices_a_log_not_replayed() {
+    assert!(faults(log_not_replayed).contains(&"an open gives another SAM"));
+}
