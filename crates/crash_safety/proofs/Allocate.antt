@@ -61,7 +61,6 @@ module _ (sam : ℕ → Bool) (slot new : Slot) (sets : Sets) (blocks : List ℕ
     (set-there : (b : ℕ) → tamBit new b ≡ (member b blocks || tamBit slot b))
     (free : (b : ℕ) → member b blocks ≡ true → sam b ≡ false)
     (tie : Tied sam slot sets) where
-
   still : isActive (new .state) ≡ true
   still = ap isActive same ∙ active
 
@@ -85,7 +84,7 @@ module _ (sam : ℕ → Bool) (slot new : Slot) (sets : Sets) (blocks : List ℕ
             ∙ sym (ap (λ (t : Bool). t && (tamBit new b && not (sam b))) still ∙ ap (λ (t : Bool). t && not (sam b)) (set-there b));
         freed = λ b.
             frees-none b (member b blocks) refl
-            ∙ sym (ap (λ (t : Bool). t && (sam b && not (tamBit new b))) still ∙ ap (λ (t : Bool). sam b && not t) (set-there b))
+            ∙ sym (ap (λ (t : Bool). t && (sam b && not (tamBit new b))) still ∙ ap (λ (t : Bool). sam b && not t) (set-there b));
       }
 
 -- no slot has taken a block with SAM 0 and COM 0
@@ -95,6 +94,7 @@ untaken w b i parts ties g t = go (member b (setsOf (w .ledger) t .taken)) refl
   where
     slot : Slot
     slot = slotAt (w .memory) t
+
     -- taken there, the slot is counted as having touched the block
     counted : member b (setsOf (w .ledger) t .taken) ≡ true → touchesBlock (w .memory) slot b ≡ true
     counted e =
@@ -108,11 +108,13 @@ untaken w b i parts ties g t = go (member b (setsOf (w .ledger) t .taken)) refl
         as-taken true true = refl
         as-taken true false = refl
         as-taken false u = refl
+
     none-there : touches (w .memory) b (w .memory .slots) ≡ 0
     none-there =
         touches-at (w .memory) b (parts .touches-agree) (g .below)
         ∙ ap (λ (u : Bool). cond (not (mathlib.Core.Bool.Bool·beq u (comBit (w .memory) b))) 1 0) (g .free)
         ∙ ap (λ (u : Bool). cond (not (mathlib.Core.Bool.Bool·beq false u)) 1 0) (g .unused)
+
     go : (u : Bool) → member b (setsOf (w .ledger) t .taken) ≡ u → member b (setsOf (w .ledger) t .taken) ≡ false
     go true e = absurd (not-le-of-lt (touches-one (w .memory) b (w .memory .slots) t (counted e)) (omega (arith, none-there)))
     go false e = e
@@ -127,13 +129,15 @@ one-taker w s b blocks h i none-held = go (member b blocks) refl
   where
     own : Sets
     own = record { taken = setsOf (w .ledger) s .taken ++ blocks; freed = setsOf (w .ledger) s .freed }
+
     change : holders (withSets (w .ledger) s own) b + one (member b (setsOf (w .ledger) s .taken)) ≡ holders (w .ledger) b + one (member b (setsOf (w .ledger) s .taken) || member b blocks)
     change = holders-set (w .ledger) s b own h ∙ ap (λ (t : Bool). holders (w .ledger) b + one t) (member-append b (setsOf (w .ledger) s .taken) blocks)
+
     go : (t : Bool) → member b blocks ≡ t → holders (withSets (w .ledger) s own) b ≤ 1
     go true e = omega (arith, change, none-held e, one-le (member b (setsOf (w .ledger) s .taken) || member b blocks))
     go false e =
         let same : (member b (setsOf (w .ledger) s .taken) || member b blocks) ≡ member b (setsOf (w .ledger) s .taken) =
-            ap (λ (t : Bool). member b (setsOf (w .ledger) s .taken) || t) e ∙ or-false (member b (setsOf (w .ledger) s .taken)) in
+        ap (λ (t : Bool). member b (setsOf (w .ledger) s .taken) || t) e ∙ or-false (member b (setsOf (w .ledger) s .taken)) in
         omega (arith, change, ap one same, i .one-holder b)
 
 -- a given block had no holder
@@ -167,27 +171,27 @@ allocate-keeps w s count list i =
     call-keeps w (allocateError (w .memory) s count list) (taking (w .memory) s (lowest (w .memory) count)) _
     (grant-number (allocateError (w .memory) s count list) (getD (lowest (w .memory) count) 0 0)) i
     (λ e.
-      let n = first-none _ e in
-      let v = is-valid (w .memory) (n .0) in
-      let nothing = is-nothing (w .memory) (n .1 .0) in
-      let parts = valid-parts (w .memory) v in
-      let below : s < 8 = leb-false 8 s (n .1 .1 .0) in
-      let slot : Slot = slotAt (w .memory) s in
-      let blocks : List ℕ = lowest (w .memory) count in
-      let new : Slot = slotOf (slot .state) (volumeBitmap (w .memory) (λ b. member b blocks || tamBit slot b)) in
-      let own : Sets = record { taken = setsOf (w .ledger) s .taken ++ blocks; freed = setsOf (w .ledger) s .freed } in
-      let plain = plain-of (w .memory) (w .ledger) (w .memory .pending) nothing (i .related v .pending) in
-      let all-listed : take count (unlessRefused (allocateError (w .memory) s count list) (blocks ++ drop count list) list) ≡ blocks =
-          ap (λ (x : Option Rattle.model.specs.declared.error.Error.Error). take count (unlessRefused x (blocks ++ drop count list) list)) e
-          ∙ listed (w .memory) count list (n .1 .1 .1 .1 .1 .1 .1 .0) in
-      subst
-      (λ (l : List ℕ). Invariant (Rattle.model.specs.World.worldOf (taking (w .memory) s blocks) (w .disk) (takes (w .ledger) s l)))
-      (sym all-listed)
-      (touching w s new (volumeBitmap (w .memory) (λ b. member b blocks || comBit (w .memory) b)) own i v nothing below
-      (taken-tie (samBit (w .memory)) slot new (setsOf (w .ledger) s) blocks
-      (not-false (isActive (slot .state)) (n .1 .1 .1 .0))
-      refl
-      (volume-bit (w .memory .blocks) (λ b. member b blocks || tamBit slot b) (parts .few-blocks) (none-from (w .memory) s count parts))
-      (λ b m. given (w .memory) count b m .free)
-      (plain .0 .slots s))
-      (λ b. one-taker w s b blocks (omega (arith, i .slots)) i (λ m. unheld w b i parts (plain .0 .finds) (plain .0 .slots) (given (w .memory) count b m)))))
+    let n = first-none _ e in
+    let v = is-valid (w .memory) (n .0) in
+    let nothing = is-nothing (w .memory) (n .1 .0) in
+    let parts = valid-parts (w .memory) v in
+    let below : s < 8 = leb-false 8 s (n .1 .1 .0) in
+    let slot : Slot = slotAt (w .memory) s in
+    let blocks : List ℕ = lowest (w .memory) count in
+    let new : Slot = slotOf (slot .state) (volumeBitmap (w .memory) (λ b. member b blocks || tamBit slot b)) in
+    let own : Sets = record { taken = setsOf (w .ledger) s .taken ++ blocks; freed = setsOf (w .ledger) s .freed } in
+    let plain = plain-of (w .memory) (w .ledger) (w .memory .pending) nothing (i .related v .pending) in
+    let all-listed : take count (unlessRefused (allocateError (w .memory) s count list) (blocks ++ drop count list) list) ≡ blocks =
+    ap (λ (x : Option Rattle.model.specs.declared.error.Error.Error). take count (unlessRefused x (blocks ++ drop count list) list)) e
+    ∙ listed (w .memory) count list (n .1 .1 .1 .1 .1 .1 .1 .0) in
+    subst
+    (λ (l : List ℕ). Invariant (Rattle.model.specs.World.worldOf (taking (w .memory) s blocks) (w .disk) (takes (w .ledger) s l)))
+    (sym all-listed)
+    (touching w s new (volumeBitmap (w .memory) (λ b. member b blocks || comBit (w .memory) b)) own i v nothing below
+    (taken-tie (samBit (w .memory)) slot new (setsOf (w .ledger) s) blocks
+    (not-false (isActive (slot .state)) (n .1 .1 .1 .0))
+    refl
+    (volume-bit (w .memory .blocks) (λ b. member b blocks || tamBit slot b) (parts .few-blocks) (none-from (w .memory) s count parts))
+    (λ b m. given (w .memory) count b m .free)
+    (plain .0 .slots s))
+    (λ b. one-taker w s b blocks (omega (arith, i .slots)) i (λ m. unheld w b i parts (plain .0 .finds) (plain .0 .slots) (given (w .memory) count b m)))))

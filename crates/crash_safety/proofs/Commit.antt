@@ -42,7 +42,6 @@ touched-either false false = refl
 module _ (memory : Memory) (s : ℕ) (sets : Sets) (parts : ValidParts memory) (sam : IsBitmap (memory .sam .words))
     (active : isActive (slotAt memory s .state) ≡ true)
     (tie : Tied (samBit memory) (slotAt memory s) sets) where
-
   -- the ledger's two sets are the blocks at which SAM changes
   sets-change : (b : ℕ) → member b (sets .taken ++ sets .freed) ≡ xor (samBit memory b) (bit (committedSam memory s .words) b)
   sets-change b =
@@ -73,7 +72,6 @@ module _ (w : World) (s : ℕ) (i : Invariant w) (v : Rattle.model.specs.Valid.
     (nothing : w .memory .pending ≡ Nothing)
     (below : s < 8)
     (active : isActive (slotAt (w .memory) s .state) ≡ true) where
-
   related : Related (w .memory) (w .ledger)
   related = i .related v
 
@@ -90,18 +88,20 @@ module _ (w : World) (s : ℕ) (i : Invariant w) (v : Rattle.model.specs.Valid.
         one-holder = i .one-holder;
         slots = i .slots;
         related = λ _.
-          committed-related (w .memory) (w .ledger) s parts active (related .slots) below
-          (λ b. sym (same b) ∙ plain .0 .finds b)
-          (λ t n. plain .0 .slots t)
-          (λ b. active-taken (samBit (w .memory)) (slotAt (w .memory) s) (setsOf (w .ledger) s) b (plain .0 .slots s) active ∙ ap (λ (t : Bool). t && not (samBit (w .memory) b)) (untouched b) ∙ and-not (samBit (w .memory) b))
-          (λ b. active-freed (samBit (w .memory)) (slotAt (w .memory) s) (setsOf (w .ledger) s) b (plain .0 .slots s) active ∙ ap (λ (t : Bool). samBit (w .memory) b && not t) (untouched b) ∙ and-not (samBit (w .memory) b))
-          (plain .1)
+            committed-related (w .memory) (w .ledger) s parts active (related .slots) below
+            (λ b. sym (same b) ∙ plain .0 .finds b)
+            (λ t n. plain .0 .slots t)
+            (λ b. active-taken (samBit (w .memory)) (slotAt (w .memory) s) (setsOf (w .ledger) s) b (plain .0 .slots s) active ∙ ap (λ (t : Bool). t && not (samBit (w .memory) b)) (untouched b) ∙ and-not (samBit (w .memory) b))
+            (λ b. active-freed (samBit (w .memory)) (slotAt (w .memory) s) (setsOf (w .ledger) s) b (plain .0 .slots s) active ∙ ap (λ (t : Bool). samBit (w .memory) b && not t) (untouched b) ∙ and-not (samBit (w .memory) b))
+            (plain .1);
       }
     where
       parts : ValidParts (w .memory)
       parts = valid-parts (w .memory) v
+
       same : (b : ℕ) → samBit (w .memory) b ≡ bit (committedSam (w .memory) s .words) b
       same b = ap (λ (words : List ℕ). bit words b) (unchanged (w .memory) s (related .sam) e)
+
       untouched : (b : ℕ) → tamBit (slotAt (w .memory) s) b ≡ samBit (w .memory) b
       untouched b = sym (committed-bits (w .memory) parts s active b) ∙ sym (same b)
 
@@ -118,8 +118,8 @@ module _ (w : World) (s : ℕ) (i : Invariant w) (v : Rattle.model.specs.Valid.
         related = λ _. record {
           sam = related .sam;
           slots = related .slots;
-          pending = ((λ _. (record { finds = plain .0 .finds; slots = plain .0 .slots }, refl)), λ h. absurd (omega (arith, h)))
-        }
+          pending = ((λ _. (record { finds = plain .0 .finds; slots = plain .0 .slots }, refl)), λ h. absurd (omega (arith, h)));
+        };
       }
 
   committing-keeps : Invariant (worldOf (committing (w .memory) s) (w .disk) (counts (w .ledger) s))
@@ -140,6 +140,6 @@ unfolding step commitMemory commitAnswer entered commitError slotOutOfRange slot
 commit-keeps w s i =
     call-keeps w (commitError (w .memory) s) (committing (w .memory) s) _ (stores-number (commitError (w .memory) s) (commitDue (w .memory) s)) i
     (λ e.
-      let n = first-none _ e in
-      committing-keeps w s i (is-valid (w .memory) (n .0)) (is-nothing (w .memory) (n .1 .0)) (leb-false 8 s (n .1 .1 .0))
-      (not-false (isActive (slotAt (w .memory) s .state)) (n .1 .1 .1 .0)))
+    let n = first-none _ e in
+    committing-keeps w s i (is-valid (w .memory) (n .0)) (is-nothing (w .memory) (n .1 .0)) (leb-false 8 s (n .1 .1 .0))
+    (not-false (isActive (slotAt (w .memory) s .state)) (n .1 .1 .1 .0)))

@@ -80,7 +80,7 @@ commit-parts memory s done due eight e =
       due-is = eqb-true due (3 * changedOf memory s + 2) (and-second (isPrecommitted (slotAt memory s .state) && leb 1 (changedOf memory s)) _ e2);
       not-ended =
           ltb-true done due
-          (and-second (isPrecommitted (slotAt memory s .state) && leb 1 (changedOf memory s) && eqb due (3 * changedOf memory s + 2)) _ e)
+          (and-second (isPrecommitted (slotAt memory s .state) && leb 1 (changedOf memory s) && eqb due (3 * changedOf memory s + 2)) _ e);
     }
 
 -- the disk after k stores of the commit of slot s, by the disk's own log words
@@ -89,7 +89,6 @@ diskAfter memory disk s k = commitDisk (memory .blocks) (memory .sam .words) (dr
 
 module _ (memory : Memory) (disk : List ℕ) (s : ℕ) (parts : ValidParts memory) (sam : IsBitmap (memory .sam .words))
     (size : length disk ≡ 386) where
-
   from : CommitFrom (memory .sam .words) (drop logAt disk) (entriesOf memory s)
   unfolding entriesOf
   from = changes-from (memory .sam .words) (committedSam memory s .words) (drop logAt disk) (sam .size) (disk-log-length disk size)

@@ -49,7 +49,6 @@ is-bitmap memory s = bitmapOf-is (memory .blocks) _
 
 module _ (memory : Memory) (ledger : Ledger) (s : ℕ) (parts : ValidParts memory)
     (active : isActive (slotAt memory s .state) ≡ true) where
-
   new : Bitmap
   new = committedSam memory s
 
@@ -63,6 +62,7 @@ module _ (memory : Memory) (ledger : Ledger) (s : ℕ) (parts : ValidParts memor
     where
       tam : ℕ → Bool
       tam b = tamBit (refreshed memory new (slotAt memory t)) b
+
       kept : isActive (slotAt memory t .state) ≡ true
           → (b : ℕ)
           → ((tam b && not (newBit b)) ≡ (tamBit (slotAt memory t) b && not (samBit memory b)))
@@ -70,6 +70,7 @@ module _ (memory : Memory) (ledger : Ledger) (s : ℕ) (parts : ValidParts memor
       kept e b =
           others-kept memory parts s t b n active e (newBit b) (committed-bits memory parts s active b) (tam b)
           (refreshed-bits memory parts new t e (λ x h. bit-from (memory .blocks) _ x h) b)
+
       go : (u : Bool) → isActive (slotAt memory t .state) ≡ u → Tied newBit (refreshed memory new (slotAt memory t)) sets
       go true e =
           let still = refreshed-state memory new (slotAt memory t) in
@@ -81,7 +82,7 @@ module _ (memory : Memory) (ledger : Ledger) (s : ℕ) (parts : ValidParts memor
             freed = λ b.
                 tie .freed b
                 ∙ ap (λ (u : Bool). isActive (slotAt memory t .state) && u) (sym (kept e b .1))
-                ∙ ap (λ (u : Bool). u && (newBit b && not (tamBit (refreshed memory new (slotAt memory t)) b))) (sym still)
+                ∙ ap (λ (u : Bool). u && (newBit b && not (tamBit (refreshed memory new (slotAt memory t)) b))) (sym still);
           }
       go false e =
           let idle = subst (λ (slot : Slot). isActive (slot .state) ≡ false) (sym (refreshed-idle memory new (slotAt memory t) e)) e in
@@ -94,7 +95,7 @@ module _ (memory : Memory) (ledger : Ledger) (s : ℕ) (parts : ValidParts memor
             freed = λ b.
                 tie .freed b
                 ∙ ap (λ (u : Bool). u && (samBit memory b && not (tamBit (slotAt memory t) b))) e
-                ∙ sym (ap (λ (u : Bool). u && (newBit b && not (tamBit after b))) idle)
+                ∙ sym (ap (λ (u : Bool). u && (newBit b && not (tamBit after b))) idle);
           }
 
   pub committed-related : length (memory .slots) ≡ 8
@@ -110,13 +111,15 @@ module _ (memory : Memory) (ledger : Ledger) (s : ℕ) (parts : ValidParts memor
       record {
         sam = is-bitmap memory s;
         slots = length-set (map (refreshed memory new) (memory .slots)) s idleSlot ∙ length-map (memory .slots) (refreshed memory new) ∙ eight;
-        pending = (record { finds = finds; slots = λ t. tied t (ℕ-discrete t s) }, uncounted)
+        pending = (record { finds = finds; slots = λ t. tied t (ℕ-discrete t s) }, uncounted);
       }
     where
       slots : List Slot
       slots = map (refreshed memory new) (memory .slots)
+
       there : s < length slots
       there = omega (arith, length-map (memory .slots) (refreshed memory new))
+
       tied : (t : ℕ) → Dec (t ≡ s) → Tied newBit (getD (set slots s idleSlot) t idleSlot) (setsOf ledger t)
       tied t (yes e) =
           subst (λ (x : ℕ). Tied newBit (getD (set slots s idleSlot) x idleSlot) (setsOf ledger x)) (sym e)

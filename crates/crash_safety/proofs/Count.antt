@@ -45,7 +45,6 @@ module _ (sam new blocks : List ℕ)
     (small-sam : (k : ℕ) → getD sam k 0 < 2 ^ 32)
     (small-new : (k : ℕ) → getD new k 0 < 2 ^ 32)
     (changed : (b : ℕ) → member b blocks ≡ xor (bit sam b) (bit new b)) where
-
   -- the list has a block in a word just where the word changes
   word-changes : (k : ℕ) → hasWord k blocks ≡ not (eqb (getD sam k 0) (getD new k 0))
   unfolding bit
@@ -56,12 +55,12 @@ module _ (sam new blocks : List ℕ)
           let found = hasWord-member k blocks e in
           let differs : xor (bit sam (found .0)) (bit new (found .0)) ≡ true = sym (changed (found .0)) ∙ found .1 in
           e ∙ sym (ap not (ne-eqb (getD sam k 0) (getD new k 0) (λ same.
-            false≢true
-            (sym (xor-same (bit sam (found .0)) (bit new (found .0))
-            (ap (λ (n : ℕ). isSet (getD sam n 0) (found .0 % 32)) (found .2)
-            ∙ ap (λ (w : ℕ). isSet w (found .0 % 32)) same
-            ∙ sym (ap (λ (n : ℕ). isSet (getD new n 0) (found .0 % 32)) (found .2))))
-            ∙ differs))))
+          false≢true
+          (sym (xor-same (bit sam (found .0)) (bit new (found .0))
+          (ap (λ (n : ℕ). isSet (getD sam n 0) (found .0 % 32)) (found .2)
+          ∙ ap (λ (w : ℕ). isSet w (found .0 % 32)) same
+          ∙ sym (ap (λ (n : ℕ). isSet (getD new n 0) (found .0 % 32)) (found .2))))
+          ∙ differs))))
       go false e =
           e ∙ sym (ap not (eq-eqb (getD sam k 0) (getD new k 0) (word-of-bits sam new k (small-sam k) (small-new k) (λ i h. same i h))))
         where
@@ -69,6 +68,7 @@ module _ (sam new blocks : List ℕ)
           none-there b q true p =
               absurd (false≢true (sym e ∙ sym (ap (λ (n : ℕ). hasWord n blocks) q) ∙ member-hasWord b blocks p))
           none-there b q false p = p
+
           same : (i : ℕ) → i < 32 → bit sam (32 * k + i) ≡ bit new (32 * k + i)
           same i h =
               same-of-xor (bit sam (32 * k + i)) (bit new (32 * k + i))

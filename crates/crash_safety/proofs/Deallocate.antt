@@ -35,7 +35,6 @@ module _ (sam : ℕ → Bool) (slot new : Slot) (sets : Sets) (block : ℕ)
     (cleared : (b : ℕ) → tamBit new b ≡ (not (eqb b block) && tamBit slot b))
     (allocated : sam block ≡ true)
     (tie : Tied sam slot sets) where
-
   still : isActive (new .state) ≡ true
   still = ap isActive same ∙ active
 
@@ -61,7 +60,7 @@ module _ (sam : ℕ → Bool) (slot new : Slot) (sets : Sets) (block : ℕ)
         freed = λ b.
             member-append b (sets .freed) (block ∷ [])
             ∙ gives b (eqb b block) refl
-            ∙ sym (ap (λ (t : Bool). t && (sam b && not (tamBit new b))) still ∙ ap (λ (t : Bool). sam b && not t) (cleared b))
+            ∙ sym (ap (λ (t : Bool). t && (sam b && not (tamBit new b))) still ∙ ap (λ (t : Bool). sam b && not t) (cleared b));
       }
 
 same-holders : (ledger : Ledger) (s b : ℕ) (freed : List ℕ)
@@ -80,24 +79,24 @@ unfolding step deallocateMemory deallocateAnswer entered frees freeing deallocat
 deallocate-keeps w s block i =
     call-keeps w (deallocateError (w .memory) s block) (freeing (w .memory) s block) _ (done-number (deallocateError (w .memory) s block)) i
     (λ e.
-      let n = first-none _ e in
-      let v = is-valid (w .memory) (n .0) in
-      let nothing = is-nothing (w .memory) (n .1 .0) in
-      let parts = valid-parts (w .memory) v in
-      let below : s < 8 = leb-false 8 s (n .1 .1 .0) in
-      let slot : Slot = slotAt (w .memory) s in
-      let plain = plain-of (w .memory) (w .ledger) (w .memory .pending) nothing (i .related v .pending) in
-      touching w s
-      (slotOf (slot .state) (volumeBitmap (w .memory) (λ b. not (eqb b block) && tamBit slot b)))
-      (volumeBitmap (w .memory) (λ b. not (eqb b block) && comBit (w .memory) b))
-      (record { taken = setsOf (w .ledger) s .taken; freed = setsOf (w .ledger) s .freed ++ (block ∷ []) })
-      i v nothing below
-      (freed-tie (samBit (w .memory)) slot
-      (slotOf (slot .state) (volumeBitmap (w .memory) (λ b. not (eqb b block) && tamBit slot b)))
-      (setsOf (w .ledger) s) block
-      (not-false (isActive (slot .state)) (n .1 .1 .1 .0))
-      refl
-      (volume-bit (w .memory .blocks) (λ b. not (eqb b block) && tamBit slot b) (parts .few-blocks) (none-from (w .memory) s block parts))
-      (not-false (samBit (w .memory) block) (n .1 .1 .1 .1 .1 .1 .0))
-      (plain .0 .slots s))
-      (λ b. same-holders (w .ledger) s b (setsOf (w .ledger) s .freed ++ (block ∷ [])) (omega (arith, i .slots)) (i .one-holder b)))
+    let n = first-none _ e in
+    let v = is-valid (w .memory) (n .0) in
+    let nothing = is-nothing (w .memory) (n .1 .0) in
+    let parts = valid-parts (w .memory) v in
+    let below : s < 8 = leb-false 8 s (n .1 .1 .0) in
+    let slot : Slot = slotAt (w .memory) s in
+    let plain = plain-of (w .memory) (w .ledger) (w .memory .pending) nothing (i .related v .pending) in
+    touching w s
+    (slotOf (slot .state) (volumeBitmap (w .memory) (λ b. not (eqb b block) && tamBit slot b)))
+    (volumeBitmap (w .memory) (λ b. not (eqb b block) && comBit (w .memory) b))
+    (record { taken = setsOf (w .ledger) s .taken; freed = setsOf (w .ledger) s .freed ++ (block ∷ []) })
+    i v nothing below
+    (freed-tie (samBit (w .memory)) slot
+    (slotOf (slot .state) (volumeBitmap (w .memory) (λ b. not (eqb b block) && tamBit slot b)))
+    (setsOf (w .ledger) s) block
+    (not-false (isActive (slot .state)) (n .1 .1 .1 .0))
+    refl
+    (volume-bit (w .memory .blocks) (λ b. not (eqb b block) && tamBit slot b) (parts .few-blocks) (none-from (w .memory) s block parts))
+    (not-false (samBit (w .memory) block) (n .1 .1 .1 .1 .1 .1 .0))
+    (plain .0 .slots s))
+    (λ b. same-holders (w .ledger) s b (setsOf (w .ledger) s .freed ++ (block ∷ [])) (omega (arith, i .slots)) (i .one-holder b)))

@@ -30,7 +30,7 @@ takers-set b s [] sets h = absurd (not-suc-le-zero h)
 takers-set b zero (own ∷ slots) sets h = omega arith
 takers-set b (suc s) (own ∷ slots) sets h =
     let ih : takers b (set slots s sets) + one (member b (getD slots s noSets .taken)) ≡ takers b slots + one (member b (sets .taken)) =
-        takers-set b s slots sets (le-of-suc-le-suc h) in
+    takers-set b s slots sets (le-of-suc-le-suc h) in
     omega arith
 
 -- a slot that has taken a block is one of its takers
@@ -63,6 +63,7 @@ member-without b (x ∷ blocks) gone = go (member x gone) refl (eqb b x) refl (m
   where
     rest : ℕ → Bool
     rest y = member y gone
+
     go : (t : Bool) → member x gone ≡ t → (u : Bool) → eqb b x ≡ u
         → member b (without blocks gone) ≡ (member b blocks && not (member b gone))
         → member b (cond t (without blocks gone) (x ∷ without blocks gone)) ≡ ((u || member b blocks) && not (member b gone))

@@ -15,3 +15,8 @@ pub mod Commit
 pub mod Small
 pub mod CommitDisk
 pub mod StoreCommit
+pub mod StoreRecovery
+pub mod Store
+pub mod Crash
+pub mod Recover
+pub mod Theorem

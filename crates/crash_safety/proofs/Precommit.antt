@@ -33,9 +33,9 @@ unfolding step precommitMemory precommitAnswer entered precommitting precommitEr
 precommit-keeps w s i =
     call-keeps w (precommitError (w .memory) s) (precommitting (w .memory) s) _ (done-number (precommitError (w .memory) s)) i
     (λ e.
-      let n = first-none _ e in
-      let v = is-valid (w .memory) (n .0) in
-      let nothing = is-nothing (w .memory) (n .1 .0) in
-      let plain = plain-of (w .memory) (w .ledger) (w .memory .pending) nothing (i .related v .pending) in
-      touching-alone w s (slotOf Precommitted (slotAt (w .memory) s .tam)) i v nothing (leb-false 8 s (n .1 .1 .0))
-      (sealed-tie (samBit (w .memory)) (slotAt (w .memory) s) (setsOf (w .ledger) s) (not-false (isActive (slotAt (w .memory) s .state)) (n .1 .1 .1 .0)) (plain .0 .slots s)))
+    let n = first-none _ e in
+    let v = is-valid (w .memory) (n .0) in
+    let nothing = is-nothing (w .memory) (n .1 .0) in
+    let plain = plain-of (w .memory) (w .ledger) (w .memory .pending) nothing (i .related v .pending) in
+    touching-alone w s (slotOf Precommitted (slotAt (w .memory) s .tam)) i v nothing (leb-false 8 s (n .1 .1 .0))
+    (sealed-tie (samBit (w .memory)) (slotAt (w .memory) s) (setsOf (w .ledger) s) (not-false (isActive (slotAt (w .memory) s .state)) (n .1 .1 .1 .0)) (plain .0 .slots s)))

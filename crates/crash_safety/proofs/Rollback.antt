@@ -38,8 +38,8 @@ unfolding step rollbackMemory rollbackAnswer entered rolledBack rollbackError sl
 rollback-keeps w s i =
     call-keeps w (rollbackError (w .memory) s) (rolledBack (w .memory) s) _ (done-number (rollbackError (w .memory) s)) i
     (λ e.
-      let n = first-none _ e in
-      let v = is-valid (w .memory) (n .0) in
-      let below : s < 8 = leb-false 8 s (n .1 .1 .0) in
-      touching w s idleSlot (rolledBackCom (w .memory) s) noSets i v (is-nothing (w .memory) (n .1 .0)) below (idle-tie (samBit (w .memory)))
-      (λ b. fewer (w .ledger) s b (omega (arith, i .slots)) (i .one-holder b)))
+    let n = first-none _ e in
+    let v = is-valid (w .memory) (n .0) in
+    let below : s < 8 = leb-false 8 s (n .1 .1 .0) in
+    touching w s idleSlot (rolledBackCom (w .memory) s) noSets i v (is-nothing (w .memory) (n .1 .0)) below (idle-tie (samBit (w .memory)))
+    (λ b. fewer (w .ledger) s b (omega (arith, i .slots)) (i .one-holder b)))

@@ -40,7 +40,7 @@ new-tie sam slot new sets idle copy active tie =
       freed = λ b.
           tie .freed b
           ∙ ap (λ (t : Bool). t && (sam b && not (tamBit slot b))) idle
-          ∙ sym (ap (λ (t : Bool). t && (sam b && not (tamBit new b))) active ∙ ap (λ (t : Bool). sam b && not t) (copy b) ∙ and-not (sam b))
+          ∙ sym (ap (λ (t : Bool). t && (sam b && not (tamBit new b))) active ∙ ap (λ (t : Bool). sam b && not t) (copy b) ∙ and-not (sam b));
     }
 
 pub start-keeps : (w : World) (s : ℕ) → Invariant w → Invariant (step (startCall s) w)
@@ -48,9 +48,9 @@ unfolding step startMemory startAnswer entered started startError slotOutOfRange
 start-keeps w s i =
     call-keeps w (startError (w .memory) s) (started (w .memory) s) _ (done-number (startError (w .memory) s)) i
     (λ e.
-      let n = first-none _ e in
-      let v = is-valid (w .memory) (n .0) in
-      let nothing = is-nothing (w .memory) (n .1 .0) in
-      let plain = plain-of (w .memory) (w .ledger) (w .memory .pending) nothing (i .related v .pending) in
-      touching-alone w s (slotOf Open (w .memory .sam)) i v nothing (leb-false 8 s (n .1 .1 .0))
-      (new-tie (samBit (w .memory)) (slotAt (w .memory) s) (slotOf Open (w .memory .sam)) (setsOf (w .ledger) s) (n .1 .1 .1 .0) (λ b. refl) refl (plain .0 .slots s)))
+    let n = first-none _ e in
+    let v = is-valid (w .memory) (n .0) in
+    let nothing = is-nothing (w .memory) (n .1 .0) in
+    let plain = plain-of (w .memory) (w .ledger) (w .memory .pending) nothing (i .related v .pending) in
+    touching-alone w s (slotOf Open (w .memory .sam)) i v nothing (leb-false 8 s (n .1 .1 .0))
+    (new-tie (samBit (w .memory)) (slotAt (w .memory) s) (slotOf Open (w .memory .sam)) (setsOf (w .ledger) s) (n .1 .1 .1 .0) (λ b. refl) refl (plain .0 .slots s)))

@@ -43,7 +43,6 @@ use Rattle.crash_safety.proofs.Committed.{committed-related, is-bitmap}
 use Rattle.crash_safety.proofs.Commit.{same-words-counted}
 use Rattle.crash_safety.proofs.CommitDisk.{CommitParts, commit-parts, diskAfter, opens-after, stands-before, stands-after, next-disk, next-small}
 
-
 -- ---- the commit point in the ledger
 
 -- A loses what the slot gave back and gains what it took: it becomes the slot's bitmap
@@ -73,19 +72,209 @@ marks-holders ledger s b h k = go (member b (setsOf ledger s .taken)) refl (memb
   where
     after : List ℕ
     after = without (ledger .allocated) (setsOf ledger s .freed) ++ setsOf ledger s .taken
+
     change : takers b (set (ledger .slots) s noSets) + one (member b (setsOf ledger s .taken)) ≡ takers b (ledger .slots) + 0
     change = takers-set b s (ledger .slots) noSets h
+
     at-most : (x y z : Bool) → x ≡ false → one ((y && z) || x) ≤ one y
     at-most x true true e = omega arith
     at-most x true false e = subst (λ (t : Bool). one t ≤ 1) (sym e) (omega arith)
     at-most x false z e = subst (λ (t : Bool). one t ≤ 0) (sym e) (omega arith)
+
     joined : member b after ≡ ((member b (ledger .allocated) && not (member b (setsOf ledger s .freed))) || member b (setsOf ledger s .taken))
     joined =
         member-append b (without (ledger .allocated) (setsOf ledger s .freed)) (setsOf ledger s .taken)
         ∙ ap (λ (t : Bool). t || member b (setsOf ledger s .taken)) (member-without b (ledger .allocated) (setsOf ledger s .freed))
+
     go : (t : Bool) → member b (setsOf ledger s .taken) ≡ t → (u : Bool) → member b (ledger .allocated) ≡ u → one (member b after) + takers b (set (ledger .slots) s noSets) ≤ 1
     go true e u f = omega (arith, change, ap one e, one-le (member b after), k)
     go false e u f =
-        omega
-        (arith, change, ap one e, k, ap one joined,
-        at-most (member b (setsOf ledger s .taken)) (member b (ledger .allocated)) (not (member b (setsOf ledger s .freed))) e)
+        omega (
+          arith,
+          change,
+          ap one e,
+          k,
+          ap one joined,
+          at-most (member b (setsOf ledger s .taken)) (member b (ledger .allocated)) (not (member b (setsOf ledger s .freed))) e,
+        )
+
+-- ---- the store
+
+-- the pending work does not enter what a commit makes
+changed-pending : (memory : Memory) (s : ℕ) (p : Pending) → changedOf (withPending memory p) s ≡ changedOf memory s
+unfolding changedOf entriesOf committedSam
+changed-pending memory s p = refl
+
+sam-pending : (memory : Memory) (s : ℕ) (p : Pending) → committedSam (withPending memory p) s ≡ committedSam memory s
+unfolding committedSam
+sam-pending memory s p = refl
+
+module _ (w : World) (s k dueNow : ℕ) (i : Invariant w)
+    (parts : ValidParts (w .memory))
+    (sam : IsBitmap (w .memory .sam .words))
+    (eight : length (w .memory .slots) ≡ 8)
+    (commit : CommitParts (w .memory) s k dueNow)
+    (size : length (w .disk) ≡ 386)
+    (matches : sameWords (w .disk) (after k (commitStores (entriesOf (w .memory) s)) (ground (w .memory) (w .disk))) ≡ true) where
+  abbrev stored : List ℕ
+  stored = writes (take 1 (drop k (commitStores (entriesOf (w .memory) s)))) (w .disk)
+
+  disk-is : stored ≡ diskAfter (w .memory) (w .disk) s (k + 1)
+  disk-is = next-disk (w .memory) (w .disk) s parts sam size k matches
+
+  -- the parts of the invariant that every store of a commit keeps in one way
+  keeps : (memory : Memory) (ledger : Ledger)
+      → ((b : ℕ) → bit (durable (diskAfter (w .memory) (w .disk) s (k + 1))) b ≡ member b (ledger .allocated))
+      → ((b : ℕ) → holders ledger b ≤ 1)
+      → length (ledger .slots) ≡ 8
+      → Related memory ledger
+      → Invariant (worldOf memory stored ledger)
+  keeps memory ledger kept holding slots related =
+      record {
+        small = next-small (w .memory) (w .disk) s parts sam size k (i .small);
+        opens = ap openError disk-is ∙ opens-after (w .memory) (w .disk) s parts sam size (k + 1);
+        kept = λ b. ap (λ (disk : List ℕ). bit (durable disk) b) disk-is ∙ kept b;
+        one-holder = holding;
+        slots = slots;
+        related = λ _. related;
+      }
+
+  abbrev more : Memory
+  more = withPending (w .memory) (Commit s (k + 1) dueNow)
+
+  -- before the commit point
+  before : k + 1 ≤ 2 * changedOf (w .memory) s
+      → Plain (w .memory) (w .ledger)
+      → Invariant (worldOf more stored (withCounting (w .ledger) (countingOf s (k + 1))))
+  unfolding holders
+  before h plain =
+      keeps more (withCounting (w .ledger) (countingOf s (k + 1)))
+      (λ b. ap (λ (words : List ℕ). bit words b) (stands-before (w .memory) (w .disk) s parts sam size (k + 1) h) ∙ plain .finds b)
+      (i .one-holder)
+      (i .slots)
+      (record {
+        sam = sam;
+        slots = eight;
+        pending = (
+          (λ _. (record { finds = plain .finds; slots = plain .slots }, refl)),
+          λ g. absurd (not-le-of-lt g (subst (λ (n : ℕ). k + 1 ≤ 2 * n) (sym (changed-pending (w .memory) s (Commit s (k + 1) dueNow))) h)),
+        );
+      })
+
+  -- the commit point
+  at-point : k ≡ 2 * changedOf (w .memory) s → Plain (w .memory) (w .ledger) → Invariant (worldOf more stored (marks (w .ledger) s))
+  unfolding marks
+  at-point e plain =
+      keeps more (marks (w .ledger) s)
+      (λ b. ap (λ (words : List ℕ). bit words b) (stands-after (w .memory) (w .disk) s parts sam size (k + 1) (omega arith)) ∙ new b)
+      (λ b. marks-holders (w .ledger) s b there (i .one-holder b))
+      (length-set (w .ledger .slots) s noSets ∙ i .slots)
+      (record {
+        sam = sam;
+        slots = eight;
+        pending = (
+          (λ h. absurd (not-le-of-lt past h)),
+          λ _. (
+            record {
+              finds = λ b. ap (λ (map : Rattle.bitmap.specs.declared.Bitmap.Bitmap). bit (map .words) b) (sam-pending (w .memory) s (Commit s (k + 1) dueNow)) ∙ new b;
+              slots = λ t n. subst (Tied (samBit (w .memory)) (slotAt (w .memory) t)) (sym (getD-set-other (w .ledger .slots) s t noSets noSets n)) (plain .slots t);
+              own = getD-set-same (w .ledger .slots) s noSets noSets there;
+            },
+            refl,
+          ),
+        );
+      })
+    where
+      there : s < length (w .ledger .slots)
+      there = omega (arith, i .slots, commit .below)
+
+      new : (b : ℕ) → bit (committedSam (w .memory) s .words) b ≡ member b (marks (w .ledger) s .allocated)
+      new b = committed-bits (w .memory) parts s (commit .active) b ∙ sym (marked (w .memory) (w .ledger) s (commit .active) plain b)
+
+      past : 2 * changedOf (withPending (w .memory) (Commit s (k + 1) dueNow)) s < k + 1
+      past = subst (λ (n : ℕ). 2 * n < k + 1) (sym (changed-pending (w .memory) s (Commit s (k + 1) dueNow))) (omega arith)
+
+  -- past the commit point, more to come
+  later : 2 * changedOf (w .memory) s < k → Past (w .memory) (w .ledger) s → w .ledger .counting ≡ none → Invariant (worldOf more stored (w .ledger))
+  later h past uncounted =
+      keeps more (w .ledger)
+      (λ b. ap (λ (words : List ℕ). bit words b) (stands-after (w .memory) (w .disk) s parts sam size (k + 1) (omega arith)) ∙ past .finds b)
+      (i .one-holder)
+      (i .slots)
+      (record {
+        sam = sam;
+        slots = eight;
+        pending = (
+          (λ g. absurd (not-le-of-lt (subst (λ (n : ℕ). 2 * n < k + 1) (sym (changed-pending (w .memory) s (Commit s (k + 1) dueNow))) (omega arith)) g)),
+          λ _. (
+            record {
+              finds = λ b. ap (λ (map : Rattle.bitmap.specs.declared.Bitmap.Bitmap). bit (map .words) b) (sam-pending (w .memory) s (Commit s (k + 1) dueNow)) ∙ past .finds b;
+              slots = past .slots;
+              own = past .own;
+            },
+            uncounted,
+          ),
+        );
+      })
+
+  -- the last store
+  last : 2 * changedOf (w .memory) s < k → Past (w .memory) (w .ledger) s → w .ledger .counting ≡ none → Invariant (worldOf (committed (w .memory) s) stored (w .ledger))
+  unfolding member
+  last h past uncounted =
+      keeps (committed (w .memory) s) (w .ledger)
+      (λ b. ap (λ (words : List ℕ). bit words b) (stands-after (w .memory) (w .disk) s parts sam size (k + 1) (omega arith)) ∙ past .finds b)
+      (i .one-holder)
+      (i .slots)
+      (committed-related (w .memory) (w .ledger) s parts (commit .active) eight (commit .below) (past .finds) (past .slots)
+      (λ b. ap (λ (sets : Sets). member b (sets .taken)) (past .own))
+      (λ b. ap (λ (sets : Sets). member b (sets .freed)) (past .own))
+      uncounted)
+
+  -- what the ledger does with a store under count
+  counted : Plain (w .memory) (w .ledger) → stores (w .ledger) (countingOf s k) ≡ cond (eqb (k + 1) (2 * changedOf (w .memory) s + 1)) (marks (w .ledger) s) (withCounting (w .ledger) (countingOf s (k + 1)))
+  unfolding stores
+  counted plain =
+      ap
+      (λ (n : ℕ). cond (eqb (k + 1) (2 * n + 1)) (marks (w .ledger) s) (withCounting (w .ledger) (countingOf s (k + 1))))
+      (same-words-counted (w .memory) s (setsOf (w .ledger) s) parts sam (commit .active) (plain .slots s))
+
+  early : k ≤ 2 * changedOf (w .memory) s → Plain (w .memory) (w .ledger) → w .ledger .counting ≡ countingOf s k
+      → Invariant (worldOf more stored (stores (w .ledger) (w .ledger .counting)))
+  early h plain c =
+      subst (λ (l : Ledger). Invariant (worldOf more stored l)) (sym (ap (stores (w .ledger)) c ∙ counted plain))
+      (go (ℕ-discrete k (2 * changedOf (w .memory) s)))
+    where
+      go : Dec (k ≡ 2 * changedOf (w .memory) s)
+          → Invariant (worldOf more stored (cond (eqb (k + 1) (2 * changedOf (w .memory) s + 1)) (marks (w .ledger) s) (withCounting (w .ledger) (countingOf s (k + 1)))))
+      go (yes e) =
+          subst (λ (t : Bool). Invariant (worldOf more stored (cond t (marks (w .ledger) s) (withCounting (w .ledger) (countingOf s (k + 1))))))
+          (sym (eq-eqb (k + 1) (2 * changedOf (w .memory) s + 1) (omega arith)))
+          (at-point e plain)
+      go (no n) =
+          subst (λ (t : Bool). Invariant (worldOf more stored (cond t (marks (w .ledger) s) (withCounting (w .ledger) (countingOf s (k + 1))))))
+          (sym (ne-eqb (k + 1) (2 * changedOf (w .memory) s + 1) (λ e. n (omega arith))))
+          (before (omega (arith, n)) plain)
+
+  late : 2 * changedOf (w .memory) s < k → Past (w .memory) (w .ledger) s → w .ledger .counting ≡ none
+      → Invariant (worldOf (cond (eqb (k + 1) dueNow) (committed (w .memory) s) more) stored (stores (w .ledger) (w .ledger .counting)))
+  unfolding stores
+  late h past c =
+      subst (λ (l : Ledger). Invariant (worldOf (cond (eqb (k + 1) dueNow) (committed (w .memory) s) more) stored l)) (sym (ap (stores (w .ledger)) c)) (go (eqb (k + 1) dueNow))
+    where
+      go : (t : Bool) → Invariant (worldOf (cond t (committed (w .memory) s) more) stored (w .ledger))
+      go true = last h past c
+      go false = later h past c
+
+  pub commit-store-keeps : PendingTied (w .memory) (w .ledger) (Commit s k dueNow)
+      → Invariant (worldOf (advanced (w .memory) (Commit s k dueNow)) stored (stores (w .ledger) (w .ledger .counting)))
+  unfolding advanced
+  commit-store-keeps tied = go (decLe k (2 * changedOf (w .memory) s))
+    where
+      go : Dec (k ≤ 2 * changedOf (w .memory) s)
+          → Invariant (worldOf (cond (eqb (k + 1) dueNow) (committed (w .memory) s) more) stored (stores (w .ledger) (w .ledger .counting)))
+      go (yes h) =
+          subst
+          (λ (t : Bool). Invariant (worldOf (cond t (committed (w .memory) s) more) stored (stores (w .ledger) (w .ledger .counting))))
+          (sym (ne-eqb (k + 1) dueNow (λ e. omega (arith, e, h, commit .due-is, commit .some-changed))))
+          (early h (tied .0 h .0) (tied .0 h .1))
+      go (no n) = late (lt-of-not-le n) (tied .1 (lt-of-not-le n) .0) (tied .1 (lt-of-not-le n) .1)

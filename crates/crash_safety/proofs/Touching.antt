@@ -61,10 +61,10 @@ touching w s slot «com» own i v nothing below new holding =
     let memory : Memory = memoryOf (w .memory .blocks) (w .memory .sam) «com» (set (w .memory .slots) s slot) (w .memory .pending) in
     let ledger : Ledger = withSets (w .ledger) s own in
     let after : Plain memory ledger =
-        record {
-          finds = plain .0 .finds;
-          slots = retied (samBit (w .memory)) (w .memory .slots) (w .ledger .slots) s slot own h k new (plain .0 .slots)
-        } in
+    record {
+      finds = plain .0 .finds;
+      slots = retied (samBit (w .memory)) (w .memory .slots) (w .ledger .slots) s slot own h k new (plain .0 .slots);
+    } in
     record {
       small = i .small;
       opens = i .opens;
@@ -74,8 +74,8 @@ touching w s slot «com» own i v nothing below new holding =
       related = λ _. record {
         sam = related .sam;
         slots = length-set (w .memory .slots) s slot ∙ related .slots;
-        pending = subst (PendingTied memory ledger) (sym nothing) (after, plain .1)
-      }
+        pending = subst (PendingTied memory ledger) (sym nothing) (after, plain .1);
+      };
     }
 
 -- the same where the ledger stays
@@ -88,7 +88,7 @@ pub touching-alone : (w : World) (s : ℕ) (slot : Slot)
     → Invariant (worldOf (memoryOf (w .memory .blocks) (w .memory .sam) (w .memory .com) (set (w .memory .slots) s slot) (w .memory .pending)) (w .disk) (w .ledger))
 touching-alone w s slot i v nothing below new =
     let same : withSets (w .ledger) s (setsOf (w .ledger) s) ≡ w .ledger =
-        ap (λ (l : List Sets). ledgerOf (w .ledger .allocated) l (w .ledger .counting)) (set-getD (w .ledger .slots) s noSets) in
+    ap (λ (l : List Sets). ledgerOf (w .ledger .allocated) l (w .ledger .counting)) (set-getD (w .ledger .slots) s noSets) in
     subst
     (λ (l : Ledger). Invariant (worldOf (memoryOf (w .memory .blocks) (w .memory .sam) (w .memory .com) (set (w .memory .slots) s slot) (w .memory .pending)) (w .disk) l))
     same

@@ -58,6 +58,7 @@ module _ (memory : Memory) (parts : ValidParts memory) where
       once : (u : Bool) → cond u 1 0 ≤ 1
       once true = omega arith
       once false = omega arith
+
       go : (u : Bool) → touchesBlock memory (slotAt memory t) b ≡ u → touchesBlock memory (slotAt memory t) b ≡ false
       go true p =
           absurd
@@ -73,8 +74,10 @@ module _ (memory : Memory) (parts : ValidParts memory) where
     where
       bits : ℕ → Bool
       bits x = majority (samBit memory x) (comBit memory x) (tamBit (slotAt memory s) x)
+
       outside : memory .blocks ≤ b → bit (committedSam memory s .words) b ≡ tamBit (slotAt memory s) b
       outside h = bit-from (memory .blocks) bits b h ∙ sym (noBits-bit (memory .blocks) (slotAt memory s .tam .words) b (slot-below memory s parts) h)
+
       go : b < memory .blocks → (t : Bool) → xor (tamBit (slotAt memory s) b) (samBit memory b) ≡ t → bits b ≡ tamBit (slotAt memory s) b
       go h true e =
           let differs = touched-differs s b h (ap₂ _&&_ active e) in
@@ -83,6 +86,7 @@ module _ (memory : Memory) (parts : ValidParts memory) where
       go h false e =
           let same = same-or-not (tamBit (slotAt memory s) b) (samBit memory b) e in
           ap (majority (samBit memory b) (comBit memory b)) same ∙ majority-untouched (samBit memory b) (comBit memory b) ∙ sym same
+
       inside : b < memory .blocks → bit (committedSam memory s .words) b ≡ tamBit (slotAt memory s) b
       inside h = bit-below (memory .blocks) bits b (parts .few-blocks) h ∙ go h (xor (tamBit (slotAt memory s) b) (samBit memory b)) refl
 
@@ -102,6 +106,7 @@ module _ (memory : Memory) (parts : ValidParts memory) where
     where
       bits : ℕ → Bool
       bits x = cond (xor (samBit memory x) (bit (new .words) x)) (bit (new .words) x) (tamBit (slotAt memory t) x)
+
       outside : memory .blocks ≤ b → bits b ≡ false
       outside h = go (xor (samBit memory b) (bit (new .words) b))
         where
@@ -126,22 +131,28 @@ module _ (memory : Memory) (parts : ValidParts memory) where
     where
       sam : Bool
       sam = samBit memory b
+
       old : Bool
       old = tamBit (slotAt memory t) b
+
       Kept : Type 0
       Kept = ((tam && not new) ≡ (old && not sam)) × ((new && not tam) ≡ (sam && not old))
+
       none-either : (u : Bool) → (u && not u) ≡ false
       none-either true = refl
       none-either false = refl
+
       -- both new and old bits are the same for SAM and for the slot
       equal : (a x c y : Bool) → a ≡ x → c ≡ y → ((a && not x) ≡ (c && not y)) × ((x && not a) ≡ (y && not c))
-      equal a x c y p q =
-          (ap (λ (u : Bool). u && not x) p ∙ none-either x ∙ sym (ap (λ (u : Bool). u && not y) q ∙ none-either y),
-          ap (λ (u : Bool). x && not u) p ∙ none-either x ∙ sym (ap (λ (u : Bool). y && not u) q ∙ none-either y))
+      equal a x c y p q = (
+        ap (λ (u : Bool). u && not x) p ∙ none-either x ∙ sym (ap (λ (u : Bool). u && not y) q ∙ none-either y),
+        ap (λ (u : Bool). x && not u) p ∙ none-either x ∙ sym (ap (λ (u : Bool). y && not u) q ∙ none-either y),
+      )
+
       go : b < memory .blocks → (u : Bool) → xor sam new ≡ u → Kept
       go h true p =
           let touches-it : touchesBlock memory (slotAt memory s) b ≡ true =
-              ap₂ _&&_ active (ap (λ (u : Bool). xor u sam) (sym e) ∙ xor-swap new sam ∙ p) in
+          ap₂ _&&_ active (ap (λ (u : Bool). xor u sam) (sym e) ∙ xor-swap new sam ∙ p) in
           let alone = touched-alone s t b h n touches-it in
           let untouched : xor old sam ≡ false = sym (ap (λ (u : Bool). u && xor old sam) other) ∙ alone in
           equal tam new old sam (f ∙ ap (λ (u : Bool). cond u new old) p) (same-or-not old sam untouched)
@@ -149,6 +160,7 @@ module _ (memory : Memory) (parts : ValidParts memory) where
           let same : sam ≡ new = same-or-not sam new p in
           let kept : tam ≡ old = f ∙ ap (λ (u : Bool). cond u new old) p in
           (ap₂ (λ (x y : Bool). x && not y) kept (sym same), ap₂ (λ (x y : Bool). x && not y) (sym same) kept)
+
       outside : memory .blocks ≤ b → Kept
       outside h =
           let no-sam : sam ≡ false = noBits-bit (memory .blocks) (memory .sam .words) b (parts .sam-below) h in

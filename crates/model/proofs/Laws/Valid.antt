@@ -16,7 +16,7 @@ use Rattle.model.specs.Types.{Slot, Memory}
 use Rattle.model.specs.Memory.{slotAt, idleSlot, isActive, samBit, comBit, tamBit, touched, emptyBitmap}
 use Rattle.model.specs.Valid.{blocksInRange, sameWords, allSlots, slotValid, touches, touchesAgree, pendingValid, valid}
 use Rattle.model.proofs.Laws.Writes.{and-both, and-first, and-second, words-same}
-use Rattle.model.proofs.Laws.DiskParts.{inRange-low, inRange-high}
+use Rattle.model.proofs.Laws.DiskParts.{blocks-inRange, inRange-low, inRange-high}
 
 pub record ValidParts (memory : Memory) : Type 0 where
   pub some-blocks : 1 ≤ memory .blocks
@@ -61,7 +61,7 @@ valid-parts memory e =
           && allSlots (slotValid (memory .blocks)) (memory .slots)
           && touchesAgree memory)
           _
-          e
+          e;
     }
 
 -- what holds of every slot holds of slot s, if it holds of an idle one
@@ -109,7 +109,7 @@ touches-two memory b (slot ∷ slots) (suc s) (suc t) n e f =
     let ih : 2 ≤ touches memory b slots = touches-two memory b slots s t (λ q. n (ap suc q)) e f in omega arith
 
 -- the empty bitmap has no bits
-noBits-empty : (blocks : ℕ) → noBitsFrom blocks (replicate 128 0) ≡ true
+pub noBits-empty : (blocks : ℕ) → noBitsFrom blocks (replicate 128 0) ≡ true
 noBits-empty blocks =
     noBits-all blocks (replicate 128 0) (λ k h. rw (getD-replicate {A = ℕ} 128 k 0 0 h) (pow-pos (blocks - 32 * k)))
 
@@ -127,3 +127,15 @@ pub slot-below : (memory : Memory) (s : ℕ) → ValidParts memory → noBitsFro
 slot-below memory s parts =
     slot-valid-below (memory .blocks) (slotAt memory s)
     (allSlots-at (slotValid (memory .blocks)) (memory .slots) s (idle-valid (memory .blocks)) (parts .slots-valid))
+
+-- the parts make a memory valid
+pub parts-valid : (memory : Memory) → ValidParts memory → valid memory ≡ true
+unfolding valid
+parts-valid memory parts =
+    and-both
+    (and-both
+    (and-both
+    (and-both (and-both (blocks-inRange (memory .blocks) (parts .some-blocks) (parts .few-blocks)) (parts .sam-below)) (parts .com-below))
+    (parts .slots-valid))
+    (parts .touches-agree))
+    (parts .pending-valid)
