@@ -2,12 +2,10 @@
 ghost use mathlib.Core.Path.{_≡_};
 ghost use Rattle.model.specs.Memory.{
   memoryOf,
+  quietMemory,
   zeroMemory,
   idleSlot,
   slotOf,
-  withSam,
-  withCom,
-  withSlots,
   withPending,
 };
 use bitmap::Bitmap;
@@ -73,12 +71,19 @@ impl Memory {
         }
     }
 
+    // A volume with all slots idle and COM equal to SAM.
+    pub fn quiet(blocks: u32, sam: Bitmap, pending: Pending) -> Memory
+        ensures { λ r. ⌜ r ≡ quietMemory blocks sam pending ⌝ }
+    {
+        let slots = [Slot::idle(); 8];
+        Memory::new(blocks, sam, sam, slots, pending)
+    }
+
     // The memory of zeros. It isn't valid.
     pub fn zero() -> Memory
         ensures { λ r. ⌜ r ≡ zeroMemory ⌝ }
     {
-        let slots = [Slot::idle(); 8];
-        Memory::new(0, Bitmap::EMPTY, Bitmap::EMPTY, slots, Pending::Nothing)
+        Memory::quiet(0, Bitmap::EMPTY, Pending::Nothing)
     }
 
     // The same memory with another pending work.
