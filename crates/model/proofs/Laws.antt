@@ -2,6 +2,7 @@
 pub mod Writes
 pub mod Entries
 pub mod DiskParts
+pub mod Shape
 pub mod Valid
 pub mod Commit
 pub mod CommitLog
