@@ -1,0 +1,2 @@
+-- The laws of this crate's definitions, by which a caller knows what its functions do to blocks.
+pub mod Laws

@@ -1,0 +1,18 @@
+-- Available blocks, a word at a time and one after another.
+use Prim.Native.Nat.{ℕ, _-_, _*_, _^_, min}
+use mathlib.Core.List.{List}
+use lib.ListN.{getD}
+use lib.Bits.{bitAnd, bitOr}
+use Rattle.bitmap.specs.Blocks.{from, isAvailable}
+
+-- the available blocks of word k of a volume of m, as the bits of a word: those with neither bit set, below m
+unfoldable pub availableWord : ℕ → List ℕ → List ℕ → ℕ → ℕ
+availableWord m sam «com» k = bitAnd (2 ^ 32 - 1 - bitOr (getD sam k 0) (getD «com» k 0)) (2 ^ min 32 (m - 32 * k) - 1)
+
+-- the available blocks from p on, rising
+abbrev pub availableFrom : ℕ → List ℕ → List ℕ → ℕ → List ℕ
+availableFrom m sam «com» p = from (isAvailable sam «com») m p
+
+-- the lowest of them, or m where there is none
+unfoldable pub nextAvailable : ℕ → List ℕ → List ℕ → ℕ → ℕ
+nextAvailable m sam «com» p = getD (availableFrom m sam «com» p) 0 m

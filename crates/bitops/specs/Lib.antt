@@ -1,0 +1,5 @@
+-- What the code on the words of bitmaps does, word by word.
+pub mod Block
+pub mod Combine
+pub mod Available
+pub mod Take

@@ -1,0 +1,3 @@
+-- What the contracts of this crate cite beside model's `valid`.
+pub mod Touches
+pub mod Pending
