@@ -1,59 +1,38 @@
 -- Allocate keeps the invariant: the blocks given had no holder, since SAM and COM were 0 there.
-use Prim.Native.Nat.{ℕ, zero, suc, _+_, _≤_, _<_}
+use Prim.Native.Nat.{ℕ, _+_, _≤_, _<_}
 use native.Mathlib.Omega.{arith}
 use mathlib.Core.Path.{_≡_, refl, sym, ap, _∙_, subst}
 use mathlib.Core.Bool.{Bool, true, false, not, _&&_, _||_, xor, cond}
-use mathlib.Core.Option.{Option, none, some}
-use mathlib.Core.List.{List, [], _∷_, _++_}
-use lib.ListN.{length, getD, set, take, drop}
-use lib.Dec.{leb, eqb}
+use mathlib.Core.Option.{Option}
+use mathlib.Core.List.{List, _++_}
+use lib.ListN.{length, getD, take, drop}
 use borrow.Author.Tests.{leb-false, not-false}
 use Rattle.bitmap.specs.Blocks.{member}
 use Rattle.model.specs.declared.memory.Memory.{Memory}
 use Rattle.model.specs.declared.memory.Slot.{Slot}
-use Rattle.model.specs.declared.memory.SlotState.the-variants.{Idle, Open, Precommitted}
-use Rattle.model.specs.Memory.{slotAt, slotOf, idleSlot, isActive, samBit, comBit, tamBit, volumeBitmap}
-use Rattle.model.specs.Ledger.{Sets, noSets, Ledger, setsOf, withSets, holders, entered, takes, frees}
-use Rattle.model.specs.Answers.{done, granted, due}
-use Rattle.model.specs.Causes.{slotOutOfRange, slotActive, slotInactive, slotPrecommitted}
-use Rattle.model.specs.World.{World, step, startCall, precommitCall, rollbackCall, deallocateCall, allocateCall}
+use Rattle.model.specs.Memory.{slotAt, slotOf, isActive, samBit, comBit, tamBit, volumeBitmap}
+use Rattle.model.specs.Ledger.{Sets, setsOf, withSets, holders, entered, takes}
+use Rattle.model.specs.Causes.{slotOutOfRange, slotActive, slotInactive}
+use Rattle.model.specs.World.{World, step, allocateCall}
 use Rattle.model.proofs.Laws.DiskParts.{first-none}
 use Rattle.model.proofs.Laws.Valid.{ValidParts, valid-parts, slot-below, touches-at, touches-one, touchesBlock}
+use Rattle.model.proofs.Laws.Taking.{Given, given}
 use Rattle.crash_safety.proofs.Bools.{or-true, or-false}
 use Rattle.crash_safety.proofs.Invariant.{Tied, Invariant}
 use Rattle.crash_safety.proofs.Refused.{call-keeps, is-valid, is-nothing, grant-number}
-use Rattle.crash_safety.proofs.Touching.{touching, touching-alone, holders-set, plain-of, active-taken, active-freed, volume-bit}
-use Prim.Native.Nat.{min}
+use Rattle.crash_safety.proofs.Touching.{touching, holders-set, plain-of, active-taken, active-freed, volume-bit}
 use native.Mathlib.Nat.{not-le-of-lt}
 use lib.ListN.{length-take}
 use lib.Seq.{take-at}
 use borrow.Author.Tests.{ltb-false}
-use Rattle.bitmap.specs.Blocks.{availableBlocks, isAvailable}
 use Rattle.bitmap.proofs.Laws.Bits.{noBits-bit}
-use Rattle.bitmap.proofs.Laws.Blocks.{member-append, member-take, available-below}
+use Rattle.bitmap.proofs.Laws.Blocks.{member-append}
 use Rattle.model.specs.Memory.{touched}
 use Rattle.model.specs.Errors.{unlessRefused}
 use Rattle.model.specs.Causes.{available, tooFewAvailable}
 use Rattle.model.specs.Valid.{touches}
 use Rattle.model.specs.Calls.Allocate.{allocateError, lowest, taking, allocateMemory, allocateAnswer, allocateList}
 use Rattle.crash_safety.proofs.Holders.{one, one-le, takers-none}
-
--- a given block is below m, with SAM 0 and COM 0
-pub record Given (memory : Memory) (b : ℕ) : Type 0 where
-  pub below : b < memory .blocks
-  pub free : samBit memory b ≡ false
-  pub unused : comBit memory b ≡ false
-
-both-not : (a b : Bool) → (not a && not b) ≡ true → (a ≡ false) × (b ≡ false)
-both-not true b e = (sym e, absurd (mathlib.Core.Bool.false≢true e))
-both-not false b e = (refl, borrow.Author.Tests.not-true b e)
-
-pub given : (memory : Memory) (count b : ℕ) → member b (lowest memory count) ≡ true → Given memory b
-unfolding lowest available isAvailable
-given memory count b e =
-    let p = available-below (memory .blocks) (memory .sam .words) (memory .com .words) b (member-take count b _ e) in
-    let q = both-not (samBit memory b) (comBit memory b) (p .1) in
-    record { below = p .0; free = q .0; unused = q .1 }
 
 module _ (sam : ℕ → Bool) (slot new : Slot) (sets : Sets) (blocks : List ℕ)
     (active : isActive (slot .state) ≡ true)
@@ -141,7 +120,7 @@ one-taker w s b blocks h i none-held = go (member b blocks) refl
         omega (arith, change, ap one same, i .one-holder b)
 
 -- a given block had no holder
-unheld : (w : World) (b : ℕ) → Invariant w → ValidParts (w .memory)
+pub unheld : (w : World) (b : ℕ) → Invariant w → ValidParts (w .memory)
     → ((x : ℕ) → samBit (w .memory) x ≡ member x (w .ledger .allocated))
     → ((t : ℕ) → Tied (samBit (w .memory)) (slotAt (w .memory) t) (setsOf (w .ledger) t))
     → Given (w .memory) b
@@ -159,7 +138,7 @@ none-from memory s count parts b h = go (member b (lowest memory count)) refl
     go false e = noBits-bit (memory .blocks) (slotAt memory s .tam .words) b (slot-below memory s parts) h
 
 -- the numbers listed are the blocks given
-listed : (memory : Memory) (count : ℕ) (list : List ℕ) → tooFewAvailable memory count ≡ false → take count (lowest memory count ++ drop count list) ≡ lowest memory count
+pub listed : (memory : Memory) (count : ℕ) (list : List ℕ) → tooFewAvailable memory count ≡ false → take count (lowest memory count ++ drop count list) ≡ lowest memory count
 unfolding lowest tooFewAvailable
 listed memory count list e =
     take-at (take count (available memory)) (drop count list) count

@@ -1,12 +1,12 @@
 -- Commit keeps the invariant: it ends at once where no word changes, and else comes under count.
-use Prim.Native.Nat.{ℕ, zero, suc, _+_, _*_, _^_, _≤_, _<_}
+use Prim.Native.Nat.{ℕ, _<_}
 use native.Mathlib.Omega.{arith}
 use mathlib.Core.Path.{_≡_, refl, sym, ap, ap₂, _∙_, subst}
-use mathlib.Core.Bool.{Bool, true, false, not, cond, xor, Bool·beq, _&&_, _||_}
-use mathlib.Core.Option.{Option, none, some}
+use mathlib.Core.Bool.{Bool, true, false, not, cond, xor, _&&_, _||_}
+use mathlib.Core.Option.{none}
 use mathlib.Core.List.{List, [], _∷_, _++_}
-use lib.ListN.{length, getD}
-use lib.Dec.{leb, eqb}
+use lib.ListN.{length}
+use lib.Dec.{eqb}
 use borrow.Author.Tests.{leb-false, not-false, eqb-true}
 use Rattle.bitmap.specs.Bits.{bit, IsBitmap}
 use Rattle.bitmap.specs.Blocks.{member}
@@ -14,9 +14,9 @@ use Rattle.bitmap.proofs.Laws.Blocks.{member-append}
 use Rattle.model.specs.declared.memory.Memory.{Memory}
 use Rattle.model.specs.declared.memory.Pending.the-variants.{Nothing, Commit}
 use Rattle.model.specs.Memory.{slotAt, isActive, samBit, tamBit, withPending}
-use Rattle.model.specs.Stores.{Store, changes, writes}
+use Rattle.model.specs.Stores.{Store, writes}
 use Rattle.model.specs.Commit.{committedSam, entriesOf, changedOf, committed}
-use Rattle.model.specs.Ledger.{Sets, Ledger, setsOf, setsWords, counts, withCounting, entered, holders}
+use Rattle.model.specs.Ledger.{Sets, setsOf, setsWords, counts, withCounting, entered, holders}
 use Rattle.model.specs.Causes.{slotOutOfRange, slotActive, slotInactive}
 use Rattle.model.specs.Calls.Committing.{commitError, commitDue, committing, commitAnswer, commitMemory}
 use Rattle.model.specs.World.{World, worldOf, step, commitCall}
@@ -24,12 +24,13 @@ use Rattle.model.proofs.Laws.Writes.{writes-changes}
 use Rattle.model.proofs.Laws.DiskParts.{first-none}
 use Rattle.model.proofs.Laws.Valid.{ValidParts, valid-parts}
 use Rattle.model.proofs.Laws.Commit.{committed-bits}
+use Rattle.model.proofs.Laws.Committed.{committed-bitmap}
 use Rattle.crash_safety.proofs.Bools.{and-not}
 use Rattle.crash_safety.proofs.Invariant.{Tied, Plain, Related, Invariant, countingOf}
 use Rattle.crash_safety.proofs.Refused.{call-keeps, is-valid, is-nothing, stores-number}
 use Rattle.crash_safety.proofs.Touching.{plain-of, active-taken, active-freed}
 use Rattle.crash_safety.proofs.Count.{words-changed}
-use Rattle.crash_safety.proofs.Committed.{committed-related, is-bitmap}
+use Rattle.crash_safety.proofs.Committed.{committed-related}
 
 -- what a slot has taken or freed, as one test
 touched-either : (sam tam : Bool) → ((tam && not sam) || (sam && not tam)) ≡ xor sam tam
@@ -54,19 +55,19 @@ module _ (memory : Memory) (s : ℕ) (sets : Sets) (parts : ValidParts memory) (
   pub same-words-counted : setsWords sets ≡ changedOf memory s
   unfolding setsWords changedOf entriesOf
   same-words-counted =
-      words-changed (memory .sam .words) (committedSam memory s .words) (sets .taken ++ sets .freed) (sam .small) (is-bitmap memory s .small) sets-change
-      (sam .size) (is-bitmap memory s .size)
+      words-changed (memory .sam .words) (committedSam memory s .words) (sets .taken ++ sets .freed) (sam .small) (committed-bitmap memory s .small) sets-change
+      (sam .size) (committed-bitmap memory s .size)
 
 no-entries : (entries : List Store) → length entries ≡ 0 → entries ≡ []
 no-entries [] e = refl
 no-entries (x ∷ entries) e = absurd (omega arith)
 
 -- a commit that changes no word leaves SAM
-unchanged : (memory : Memory) (s : ℕ) → IsBitmap (memory .sam .words) → changedOf memory s ≡ 0 → memory .sam .words ≡ committedSam memory s .words
+pub unchanged : (memory : Memory) (s : ℕ) → IsBitmap (memory .sam .words) → changedOf memory s ≡ 0 → memory .sam .words ≡ committedSam memory s .words
 unfolding changedOf entriesOf writes
 unchanged memory s sam e =
     ap (λ (es : List Store). writes es (memory .sam .words)) (sym (no-entries (entriesOf memory s) e))
-    ∙ writes-changes (memory .sam .words) (committedSam memory s .words) (sam .size ∙ sym (is-bitmap memory s .size))
+    ∙ writes-changes (memory .sam .words) (committedSam memory s .words) (sam .size ∙ sym (committed-bitmap memory s .size))
 
 module _ (w : World) (s : ℕ) (i : Invariant w) (v : Rattle.model.specs.Valid.valid (w .memory) ≡ true)
     (nothing : w .memory .pending ≡ Nothing)

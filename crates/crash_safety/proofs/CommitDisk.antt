@@ -1,46 +1,36 @@
 -- The disk of a pending commit: what it stands for after each number of stores.
-use Prim.Native.Nat.{ℕ, zero, suc, _+_, _*_, _^_, _≤_, _<_}
-use native.Mathlib.Decide.{ℕ-discrete, decLe}
-use native.Mathlib.Nat.{not-le-of-lt, lt-of-not-le}
+use Prim.Native.Nat.{ℕ, _+_, _*_, _≤_, _<_}
+use native.Mathlib.Decide.{decLe}
+use native.Mathlib.Nat.{lt-of-not-le}
 use native.Mathlib.Omega.{arith}
-use mathlib.Core.Path.{_≡_, refl, sym, ap, ap₂, _∙_, subst, subst₂}
-use mathlib.Core.Bool.{Bool, true, false, not, cond, _&&_, _||_}
-use mathlib.Core.Option.{Option, none, some}
-use mathlib.Core.List.{List, [], _∷_, _++_}
-use lib.ListN.{length, getD, set, take, drop, length-set}
-use lib.Seq.{getD-set-same, getD-set-other}
+use mathlib.Core.Path.{_≡_, refl, sym, ap, _∙_}
+use mathlib.Core.Bool.{Bool, true, _&&_}
+use mathlib.Core.Option.{none}
+use mathlib.Core.List.{List}
+use lib.ListN.{length, take, drop}
 use lib.Dec.{leb, ltb, eqb}
-use borrow.Author.Tests.{leb-true, ltb-true, eqb-true, eq-eqb, ne-eqb}
-use Rattle.bitmap.specs.Bits.{bit, noBitsFrom, IsBitmap}
-use Rattle.bitmap.specs.Blocks.{member}
+use borrow.Author.Tests.{leb-true, ltb-true, eqb-true}
+use Rattle.bitmap.specs.Bits.{noBitsFrom, IsBitmap}
 use Rattle.bitmap.proofs.Laws.Bits.{noBits-bitmapOf}
-use Rattle.bitmap.proofs.Laws.Blocks.{member-append}
 use Rattle.model.specs.declared.memory.Memory.{Memory}
 use Rattle.model.specs.declared.memory.SlotState.{SlotState}
 use Rattle.model.specs.declared.memory.SlotState.the-variants.{Idle, Open, Precommitted}
-use Rattle.model.specs.declared.memory.Pending.{Pending}
-use Rattle.model.specs.declared.memory.Pending.the-variants.{Nothing, Commit}
-use Rattle.model.specs.Memory.{slotAt, isActive, isPrecommitted, samBit, tamBit, withPending}
+use Rattle.model.specs.declared.memory.Pending.the-variants.{Commit}
+use Rattle.model.specs.Memory.{slotAt, isActive, isPrecommitted}
 use Rattle.model.specs.Sizes.{logAt}
-use Rattle.model.specs.Stores.{Store, changes, writes, after, commitStores}
-use Rattle.model.specs.Commit.{committedSam, entriesOf, changedOf, committed}
-use Rattle.model.specs.Valid.{valid, sameWords, pendingValid}
-use Rattle.model.specs.Disk.{durable, diskOf, ground, diskMatches}
-use Rattle.model.specs.Ledger.{Sets, noSets, Counting, Ledger, ledgerOf, setsOf, setsWords, without, marks, stores, withCounting, holders, takers}
+use Rattle.model.specs.Stores.{Store, writes, after, commitStores}
+use Rattle.model.specs.Commit.{committedSam, entriesOf, changedOf}
+use Rattle.model.specs.Valid.{sameWords, pendingValid}
+use Rattle.model.specs.Disk.{durable, ground}
+use Rattle.model.specs.Ledger.{stores}
 use Rattle.model.specs.Calls.Opening.{openError}
-use Rattle.model.specs.Calls.Storing.{advanced}
-use Rattle.model.specs.World.{World, worldOf}
 use Rattle.model.proofs.Laws.Writes.{and-first, and-second, same-words, writes-changes, store-next-one}
 use Rattle.model.proofs.Laws.Entries.{changes-valid, changes-count}
 use Rattle.model.proofs.Laws.DiskParts.{disk-log-length}
-use Rattle.model.proofs.Laws.Valid.{ValidParts, valid-parts}
-use Rattle.model.proofs.Laws.Commit.{committed-bits}
+use Rattle.model.proofs.Laws.Valid.{ValidParts}
+use Rattle.model.proofs.Laws.Committed.{committed-bitmap}
 use Rattle.model.proofs.Laws.CommitLog.{CommitFrom, changes-from, commitDisk, durable-before, durable-after, durable-end, commit-opens}
-use Rattle.crash_safety.proofs.Holders.{one, one-le, takers-set, takers-at, member-without}
-use Rattle.crash_safety.proofs.Invariant.{Tied, Plain, Past, PendingTied, Related, Invariant, Small, countingOf}
-use Rattle.crash_safety.proofs.Touching.{active-taken, active-freed}
-use Rattle.crash_safety.proofs.Committed.{committed-related, is-bitmap}
-use Rattle.crash_safety.proofs.Commit.{same-words-counted}
+use Rattle.crash_safety.proofs.Invariant.{Small}
 use Rattle.crash_safety.proofs.Small.{writes-small, take-small, drop-small, commit-small, changes-small}
 
 -- a pending commit, as a valid memory has it
@@ -89,7 +79,7 @@ diskAfter memory disk s k = commitDisk (memory .blocks) (memory .sam .words) (dr
 
 module _ (memory : Memory) (disk : List ℕ) (s : ℕ) (parts : ValidParts memory) (sam : IsBitmap (memory .sam .words))
     (size : length disk ≡ 386) where
-  from : CommitFrom (memory .sam .words) (drop logAt disk) (entriesOf memory s)
+  pub from : CommitFrom (memory .sam .words) (drop logAt disk) (entriesOf memory s)
   unfolding entriesOf
   from = changes-from (memory .sam .words) (committedSam memory s .words) (drop logAt disk) (sam .size) (disk-log-length disk size)
 
@@ -105,9 +95,9 @@ module _ (memory : Memory) (disk : List ℕ) (s : ℕ) (parts : ValidParts memor
       (changes-valid (memory .blocks) (memory .sam .words) (committedSam memory s .words) (parts .sam-below) new-below)
       (changes-count (memory .blocks) (memory .sam .words) (committedSam memory s .words) (parts .sam-below) new-below)
 
-  written : writes (entriesOf memory s) (memory .sam .words) ≡ committedSam memory s .words
+  pub written : writes (entriesOf memory s) (memory .sam .words) ≡ committedSam memory s .words
   unfolding entriesOf
-  written = writes-changes (memory .sam .words) (committedSam memory s .words) (sam .size ∙ sym (is-bitmap memory s .size))
+  written = writes-changes (memory .sam .words) (committedSam memory s .words) (sam .size ∙ sym (committed-bitmap memory s .size))
 
   -- before the commit point it stands for SAM
   pub stands-before : (k : ℕ) → k ≤ 2 * changedOf memory s → durable (diskAfter memory disk s k) ≡ memory .sam .words
@@ -137,7 +127,7 @@ module _ (memory : Memory) (disk : List ℕ) (s : ℕ) (parts : ValidParts memor
       writes-small (take 1 (drop k stores)) disk
       (take-small 1 (drop k stores)
       (drop-small k stores
-      (commit-small (entriesOf memory s) (from .places) (from .few) (changes-small 0 (memory .sam .words) (committedSam memory s .words) (is-bitmap memory s .small)))))
+      (commit-small (entriesOf memory s) (from .places) (from .few) (changes-small 0 (memory .sam .words) (committedSam memory s .words) (committed-bitmap memory s .small)))))
       small
     where
       stores : List Store

@@ -1,17 +1,17 @@
 -- The memory after a commit: SAM is what the ledger has allocated, the slot is idle, and every other slot is tied as before.
-use Prim.Native.Nat.{ℕ, zero, suc, _+_, _≤_, _<_}
+use Prim.Native.Nat.{ℕ, _<_}
 use native.Mathlib.Decide.{ℕ-discrete}
 use native.Mathlib.Omega.{arith}
 use mathlib.Core.Path.{_≡_, refl, sym, ap, _∙_, subst}
-use mathlib.Core.Bool.{Bool, true, false, not, cond, xor, _&&_}
+use mathlib.Core.Bool.{Bool, true, false, not, _&&_}
 use mathlib.Core.Option.{none}
 use mathlib.Core.List.{List, map}
-use lib.ListN.{length, getD, set, length-set, length-map, List·getD-map}
-use lib.Seq.{getD-set-same, getD-set-other}
+use lib.ListN.{length, getD, set, length-set, length-map}
+use lib.Seq.{getD-set-same}
 use Rattle.bitmap.specs.declared.Bitmap.{Bitmap}
-use Rattle.bitmap.specs.Bits.{bit, IsBitmap}
+use Rattle.bitmap.specs.Bits.{bit}
 use Rattle.bitmap.specs.Blocks.{member}
-use Rattle.bitmap.proofs.Laws.Bits.{bit-from, bitmapOf-is}
+use Rattle.bitmap.proofs.Laws.Bits.{bit-from}
 use Rattle.model.specs.declared.memory.Memory.{Memory}
 use Rattle.model.specs.declared.memory.Slot.{Slot}
 use Rattle.model.specs.Memory.{slotAt, idleSlot, isActive, samBit, tamBit}
@@ -19,33 +19,8 @@ use Rattle.model.specs.Commit.{committedSam, refreshed, committed}
 use Rattle.model.specs.Ledger.{Sets, Ledger, setsOf}
 use Rattle.model.proofs.Laws.Valid.{ValidParts}
 use Rattle.model.proofs.Laws.Commit.{committed-bits, refreshed-bits, others-kept}
-use Rattle.crash_safety.proofs.Invariant.{Tied, Plain, Related}
-
--- a slot of a refreshed list
-refreshed-at : (memory : Memory) (new : Bitmap) (s t : ℕ) → (t ≡ s → ⊥) → getD (set (map (refreshed memory new) (memory .slots)) s idleSlot) t idleSlot ≡ refreshed memory new (slotAt memory t)
-unfolding refreshed
-refreshed-at memory new s t n =
-    getD-set-other (map (refreshed memory new) (memory .slots)) s t idleSlot idleSlot n
-    ∙ List·getD-map (refreshed memory new) (memory .slots) t idleSlot
-
-cond-state : (t : Bool) (new slot : Slot) → new .state ≡ slot .state → isActive (cond t new slot .state) ≡ isActive (slot .state)
-cond-state true new slot e = ap isActive e
-cond-state false new slot e = refl
-
-cond-false : (t : Bool) (new slot : Slot) → t ≡ false → cond t new slot ≡ slot
-cond-false t new slot e = ap (λ (u : Bool). cond u new slot) e
-
-refreshed-state : (memory : Memory) (new : Bitmap) (slot : Slot) → isActive (refreshed memory new slot .state) ≡ isActive (slot .state)
-unfolding refreshed
-refreshed-state memory new slot = cond-state (isActive (slot .state)) _ slot refl
-
-refreshed-idle : (memory : Memory) (new : Bitmap) (slot : Slot) → isActive (slot .state) ≡ false → refreshed memory new slot ≡ slot
-unfolding refreshed
-refreshed-idle memory new slot e = cond-false (isActive (slot .state)) _ slot e
-
-pub is-bitmap : (memory : Memory) (s : ℕ) → IsBitmap (committedSam memory s .words)
-unfolding committedSam
-is-bitmap memory s = bitmapOf-is (memory .blocks) _
+use Rattle.model.proofs.Laws.Committed.{committed-bitmap, refreshed-at, refreshed-state, refreshed-idle}
+use Rattle.crash_safety.proofs.Invariant.{Tied, Related}
 
 module _ (memory : Memory) (ledger : Ledger) (s : ℕ) (parts : ValidParts memory)
     (active : isActive (slotAt memory s .state) ≡ true) where
@@ -109,7 +84,7 @@ module _ (memory : Memory) (ledger : Ledger) (s : ℕ) (parts : ValidParts memor
   unfolding committed newBit new
   committed-related eight below finds ties no-taken no-freed uncounted =
       record {
-        sam = is-bitmap memory s;
+        sam = committed-bitmap memory s;
         slots = length-set (map (refreshed memory new) (memory .slots)) s idleSlot ∙ length-map (memory .slots) (refreshed memory new) ∙ eight;
         pending = (record { finds = finds; slots = λ t. tied t (ℕ-discrete t s) }, uncounted);
       }

@@ -1,29 +1,28 @@
 -- A crash keeps the invariant, and so does an open: it finds what the disk stands for.
-use Prim.Native.Nat.{ℕ, zero, suc, _+_, _*_, _^_, _≤_, _<_}
+use Prim.Native.Nat.{ℕ, zero, suc, _≤_}
 use native.Mathlib.Omega.{arith}
 use mathlib.Core.Path.{_≡_, refl, sym, ap, _∙_, subst}
-use mathlib.Core.Bool.{Bool, true, false, not, cond, _&&_}
+use mathlib.Core.Bool.{Bool, false}
 use mathlib.Core.Option.{Option, none, some}
-use mathlib.Core.List.{List, []}
-use lib.ListN.{length, getD, replicate}
-use Rattle.bitmap.specs.Bits.{bit, IsBitmap}
+use mathlib.Core.List.{List}
+use lib.ListN.{getD, replicate}
+use Rattle.bitmap.specs.Bits.{bit}
 use Rattle.bitmap.specs.Blocks.{member}
 use Rattle.model.specs.declared.error.Error.{Error}
 use Rattle.model.specs.declared.memory.Memory.{Memory}
 use Rattle.model.specs.declared.memory.Pending.{Pending}
-use Rattle.model.specs.declared.memory.Pending.the-variants.{Nothing, Recovery}
-use Rattle.model.specs.Memory.{zeroMemory, idleSlot, samBit, quietMemory, bitmap}
+use Rattle.model.specs.Memory.{zeroMemory, idleSlot, quietMemory, bitmap}
 use Rattle.model.specs.Errors.{unlessRefused}
 use Rattle.model.specs.Answers.{due, storesNumber, counted, statusNumber}
 use Rattle.model.specs.Valid.{valid, blocksInRange}
 use Rattle.model.specs.Disk.{diskBlocks, logLength, durable}
-use Rattle.model.specs.Ledger.{Sets, noSets, Ledger, ledgerOf, setsOf, emptied, entered, enter, holders, takers, opening, crashing, asking}
-use Rattle.model.specs.Calls.Opening.{openError, recoveryDue, recoveryPending, opened, openAnswer, openMemory}
+use Rattle.model.specs.Ledger.{Sets, noSets, Ledger, emptied, entered, enter, holders, opening, crashing, asking}
+use Rattle.model.specs.Calls.Opening.{recoveryDue, recoveryPending, opened, openAnswer, openMemory}
 use Rattle.model.specs.Calls.Status.{statusError, statusAnswer, counts}
 use Rattle.model.specs.World.{World, worldOf, event, crashed, step, openCall, statusCall, crashCall}
 use Rattle.model.proofs.Laws.RecoveryLog.{durable-length}
-use Rattle.crash_safety.proofs.Holders.{one, one-le, takers-crashed}
-use Rattle.crash_safety.proofs.Invariant.{Tied, Plain, PendingTied, Related, Invariant}
+use Rattle.crash_safety.proofs.Holders.{one-le, takers-crashed}
+use Rattle.crash_safety.proofs.Invariant.{Tied, Plain, PendingTied, Invariant}
 use Rattle.crash_safety.proofs.Refused.{enter-accepted, enter-refused, stores-number, numberOf}
 use Rattle.crash_safety.proofs.Small.{durable-small}
 
@@ -33,12 +32,12 @@ unfolding valid blocksInRange
 zero-invalid = refl
 
 -- an element of n alike, and the same past their end
-alike : {A : Type 0} (n t : ℕ) (a : A) → getD (replicate n a) t a ≡ a
+pub alike : {A : Type 0} (n t : ℕ) (a : A) → getD (replicate n a) t a ≡ a
 alike zero t a = refl
 alike (suc n) zero a = refl
 alike (suc n) (suc t) a = alike n t a
 
-crash-enters : (ledger : Ledger) → enter (event crashing 0 0 0) ledger ≡ emptied ledger
+pub crash-enters : (ledger : Ledger) → enter (event crashing 0 0 0) ledger ≡ emptied ledger
 unfolding entered
 crash-enters ledger = enter-accepted (event crashing 0 0 0) ledger refl
 

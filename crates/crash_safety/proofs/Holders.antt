@@ -12,10 +12,7 @@ use Rattle.bitmap.specs.Blocks.{member}
 use Rattle.bitmap.proofs.Laws.Blocks.{member-append}
 use Rattle.crash_safety.proofs.Bools.{and-false}
 use Rattle.model.specs.Ledger.{Sets, noSets, Ledger, ledgerOf, setsOf, without, takers, holders}
-
--- 1 for true, 0 for false
-abbrev pub one : Bool → ℕ
-one t = cond t 1 0
+pub use Rattle.model.proofs.Laws.Touches.{one}
 
 pub one-le : (t : Bool) → one t ≤ 1
 one-le true = omega arith

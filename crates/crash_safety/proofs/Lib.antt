@@ -1,4 +1,5 @@
--- The proof of crash safety. Its order: what a disk stands for and the invariant; one file for each call; the theorem.
+-- The proof of crash safety. Its order: what a disk stands for and the invariant; one file for each call; the theorem; then
+-- that memory and disk stay in order, and what the two say in use.
 pub mod Bools
 pub mod Holders
 pub mod Invariant
@@ -20,3 +21,7 @@ pub mod Store
 pub mod Crash
 pub mod Recover
 pub mod Theorem
+pub mod InOrder
+pub mod Recovering
+pub mod Working
+pub mod Consequences

@@ -1,66 +1,37 @@
 -- A recovery that nothing interrupts: every store is accepted, and at the end words 2 to 129 are what the disk stood for.
-use Prim.Native.Nat.{ℕ, zero, suc, _+_, _/_, _≤_, _<_}
+use Prim.Native.Nat.{ℕ, zero, suc, _+_, _≤_, _<_}
 use native.Mathlib.Nat.{zero-add}
 use native.Mathlib.Omega.{arith}
 use mathlib.Core.Path.{_≡_, refl, sym, ap, _∙_, subst, subst₂}
-use mathlib.Core.Bool.{Bool, true, false, not, cond, xor, _&&_}
-use mathlib.Core.Option.{Option, none, some}
-use mathlib.Core.List.{List, []}
-use lib.ListN.{length, getD, replicate, take, drop}
-use lib.Dec.{leb, ltb, eqb}
-use borrow.Author.Tests.{le-leb, lt-ltb, eq-eqb, ne-eqb}
-use Rattle.bitmap.specs.Bits.{bit, noBitsFrom}
-use Rattle.bitmap.proofs.Laws.Blocks.{allBelow-all}
+use mathlib.Core.Bool.{Bool, true, not, cond}
+use mathlib.Core.Option.{Option, none}
+use mathlib.Core.List.{List}
+use lib.ListN.{length, drop}
+use borrow.Author.Tests.{eq-eqb, ne-eqb}
 use Rattle.model.specs.declared.memory.Memory.{Memory}
-use Rattle.model.specs.declared.memory.Slot.{Slot}
 use Rattle.model.specs.declared.memory.Pending.the-variants.{Nothing, Recovery}
-use Rattle.model.specs.Memory.{quietMemory, bitmap, idleSlot, samBit, comBit, touched, isActive, withPending}
+use Rattle.model.specs.Memory.{quietMemory, bitmap, withPending}
 use Rattle.model.specs.Errors.{unlessRefused}
-use Rattle.model.specs.Stores.{writes, mendStores}
-use Rattle.model.specs.Valid.{valid, touches, touchesAgree, allSlots, slotValid, isQuiet, sameWords, pendingValid}
+use Rattle.model.specs.Stores.{writes}
+use Rattle.model.specs.Valid.{valid}
 use Rattle.model.specs.Disk.{diskBlocks, logLength, diskBitmap, entriesIn, logEntries, durable, dueStores, diskMatches, recoveryMatches}
 use Rattle.model.specs.Causes.{memoryInvalid, diskLengthWrong, diskMismatched, isNothing, nothingPending}
 use Rattle.model.specs.Calls.Opening.{openError, recoveryDue, recoveryPending, opened}
 use Rattle.model.specs.Calls.Storing.{storeError, storesDone, advanced, nextStored, storeMemory, storeDisk}
-use Rattle.model.proofs.Laws.Writes.{and-both, words-same}
-use Rattle.model.proofs.Laws.DiskParts.{Opens, opens-parts, none-first, true-not}
-use Rattle.model.proofs.Laws.Valid.{ValidParts, parts-valid, idle-valid}
-use Rattle.model.proofs.Laws.RecoveryLog.{recoveryDisk, durable-noBits, recovery-length, recovery-matches, recovery-next, ended-bitmap}
+use Rattle.model.proofs.Laws.DiskParts.{none-first}
+use Rattle.model.proofs.Laws.Valid.{parts-valid}
+use Rattle.model.proofs.Laws.Opened.{quiet-valid, recovery-pending-valid}
+use Rattle.model.proofs.Laws.RecoveryLog.{recoveryDisk, recovery-length, recovery-matches, recovery-next, ended-bitmap}
 use Rattle.crash_safety.specs.Statement.{StoresAccepted, afterStores}
-use Rattle.crash_safety.proofs.Bools.{xor-same}
 
 -- the memory of a recovery with k of its stores done
 abbrev memoryAt : List ℕ → ℕ → ℕ → Memory
 memoryAt disk k n = quietMemory (diskBlocks disk) (bitmap (durable disk)) (Recovery k n)
 
-all-idle : (blocks n : ℕ) → allSlots (slotValid blocks) (replicate n idleSlot) ≡ true
-unfolding allSlots
-all-idle blocks zero = refl
-all-idle blocks (suc n) = and-both (idle-valid blocks) (all-idle blocks n)
-
 module _ (disk : List ℕ) (opens : openError disk ≡ none) (n : ℕ) (due-is : n ≡ logLength disk + 1) (some-logged : 1 ≤ logLength disk) where
   -- it is valid
   recovery-valid : (k : ℕ) → k < n → valid (memoryAt disk k n) ≡ true
-  unfolding touchesAgree touches pendingValid isQuiet allSlots
-  recovery-valid k h =
-      parts-valid (memoryAt disk k n)
-      (record {
-        some-blocks = parts .some-blocks;
-        few-blocks = parts .few-blocks;
-        sam-below = durable-noBits disk opens;
-        com-below = durable-noBits disk opens;
-        slots-valid = all-idle (diskBlocks disk) 8;
-        touches-agree = allBelow-all (diskBlocks disk) _ (λ b _. ap (λ (t : Bool). eqb 0 (cond t 1 0)) (xor-same (bit (durable disk) b) (bit (durable disk) b) refl));
-        pending-valid =
-            and-both
-            (and-both
-            (and-both (words-same (durable disk)) (le-leb 2 n (omega arith)))
-            (le-leb n ((diskBlocks disk + 31) / 32 + 1) (omega (arith, parts .few-entries))))
-            (lt-ltb k n h);
-      })
-    where
-      parts : Opens disk
-      parts = opens-parts disk opens
+  recovery-valid k h = parts-valid (memoryAt disk k n) (quiet-valid disk opens (Recovery k n) (recovery-pending-valid disk opens k n due-is some-logged h))
 
   -- so its next store is accepted
   recovery-accepted : (k : ℕ) → k < n → storeError (memoryAt disk k n) (recoveryDisk disk k) ≡ none

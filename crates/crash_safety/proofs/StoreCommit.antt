@@ -1,47 +1,40 @@
 -- A store of a commit keeps the invariant. Every store but the commit point leaves what the disk stands for; the commit point
 -- makes it the slot's bitmap, and the ledger's allocated set with it.
-use Prim.Native.Nat.{ℕ, zero, suc, _+_, _*_, _^_, _≤_, _<_}
+use Prim.Native.Nat.{ℕ, _+_, _*_, _≤_, _<_}
 use native.Mathlib.Decide.{ℕ-discrete, decLe}
 use native.Mathlib.Nat.{not-le-of-lt, lt-of-not-le}
 use native.Mathlib.Omega.{arith}
-use mathlib.Core.Path.{_≡_, refl, sym, ap, ap₂, _∙_, subst, subst₂}
+use mathlib.Core.Path.{_≡_, refl, sym, ap, ap₂, _∙_, subst}
 use mathlib.Core.Bool.{Bool, true, false, not, cond, _&&_, _||_}
-use mathlib.Core.Option.{Option, none, some}
-use mathlib.Core.List.{List, [], _∷_, _++_}
-use lib.ListN.{length, getD, set, take, drop, length-set}
+use mathlib.Core.Option.{none}
+use mathlib.Core.List.{List, _++_}
+use lib.ListN.{length, set, take, drop, length-set}
 use lib.Seq.{getD-set-same, getD-set-other}
-use lib.Dec.{leb, ltb, eqb}
-use borrow.Author.Tests.{leb-true, ltb-true, eqb-true, eq-eqb, ne-eqb}
-use Rattle.bitmap.specs.Bits.{bit, noBitsFrom, IsBitmap}
+use lib.Dec.{eqb}
+use borrow.Author.Tests.{eq-eqb, ne-eqb}
+use Rattle.bitmap.specs.Bits.{bit, IsBitmap}
 use Rattle.bitmap.specs.Blocks.{member}
-use Rattle.bitmap.proofs.Laws.Bits.{noBits-bitmapOf}
 use Rattle.bitmap.proofs.Laws.Blocks.{member-append}
 use Rattle.model.specs.declared.memory.Memory.{Memory}
-use Rattle.model.specs.declared.memory.SlotState.{SlotState}
-use Rattle.model.specs.declared.memory.SlotState.the-variants.{Idle, Open, Precommitted}
 use Rattle.model.specs.declared.memory.Pending.{Pending}
-use Rattle.model.specs.declared.memory.Pending.the-variants.{Nothing, Commit}
-use Rattle.model.specs.Memory.{slotAt, isActive, isPrecommitted, samBit, tamBit, withPending}
-use Rattle.model.specs.Stores.{Store, changes, writes, after, commitStores}
+use Rattle.model.specs.declared.memory.Pending.the-variants.{Commit}
+use Rattle.model.specs.Memory.{slotAt, isActive, samBit, tamBit, withPending}
+use Rattle.model.specs.Stores.{writes, after, commitStores}
 use Rattle.model.specs.Commit.{committedSam, entriesOf, changedOf, committed}
-use Rattle.model.specs.Valid.{valid, sameWords, pendingValid}
-use Rattle.model.specs.Disk.{durable, diskOf, ground, diskMatches}
-use Rattle.model.specs.Ledger.{Sets, noSets, Counting, Ledger, ledgerOf, setsOf, setsWords, without, marks, stores, withCounting, holders, takers}
+use Rattle.model.specs.Valid.{sameWords}
+use Rattle.model.specs.Disk.{durable, ground}
+use Rattle.model.specs.Ledger.{Sets, noSets, Ledger, setsOf, without, marks, stores, withCounting, holders, takers}
 use Rattle.model.specs.Calls.Opening.{openError}
 use Rattle.model.specs.Calls.Storing.{advanced}
 use Rattle.model.specs.World.{World, worldOf}
-use Rattle.model.proofs.Laws.Writes.{and-first, and-second, same-words, writes-changes, store-next-one}
-use Rattle.model.proofs.Laws.Entries.{changes-valid, changes-count}
-use Rattle.model.proofs.Laws.DiskParts.{disk-log-length}
-use Rattle.model.proofs.Laws.Valid.{ValidParts, valid-parts}
+use Rattle.model.proofs.Laws.Valid.{ValidParts}
 use Rattle.model.proofs.Laws.Commit.{committed-bits}
-use Rattle.model.proofs.Laws.CommitLog.{CommitFrom, changes-from, commitDisk, durable-before, durable-after, durable-end, commit-opens}
-use Rattle.crash_safety.proofs.Holders.{one, one-le, takers-set, takers-at, member-without}
-use Rattle.crash_safety.proofs.Invariant.{Tied, Plain, Past, PendingTied, Related, Invariant, Small, countingOf}
+use Rattle.crash_safety.proofs.Holders.{one, one-le, takers-set, member-without}
+use Rattle.crash_safety.proofs.Invariant.{Tied, Plain, Past, PendingTied, Related, Invariant, countingOf}
 use Rattle.crash_safety.proofs.Touching.{active-taken, active-freed}
-use Rattle.crash_safety.proofs.Committed.{committed-related, is-bitmap}
+use Rattle.crash_safety.proofs.Committed.{committed-related}
 use Rattle.crash_safety.proofs.Commit.{same-words-counted}
-use Rattle.crash_safety.proofs.CommitDisk.{CommitParts, commit-parts, diskAfter, opens-after, stands-before, stands-after, next-disk, next-small}
+use Rattle.crash_safety.proofs.CommitDisk.{CommitParts, diskAfter, opens-after, stands-before, stands-after, next-disk, next-small}
 
 -- ---- the commit point in the ledger
 

@@ -1,12 +1,11 @@
 -- Crash safety: every call keeps the invariant, the invariant holds at the beginning, and it is safe.
-use Prim.Native.Nat.{ℕ, zero, suc, _+_, _^_, _≤_, _<_}
+use Prim.Native.Nat.{ℕ, zero, suc, _≤_}
 use native.Mathlib.Omega.{arith}
 use mathlib.Core.Path.{_≡_, refl, sym, ap, _∙_, subst}
-use mathlib.Core.Bool.{Bool, true, false, not}
-use mathlib.Core.Option.{Option, none, some}
+use mathlib.Core.Bool.{Bool, not}
+use mathlib.Core.Option.{Option, none}
 use mathlib.Core.List.{List, [], _∷_}
-use lib.ListN.{length, getD, replicate}
-use lib.Dec.{eqb}
+use lib.ListN.{length, replicate}
 use borrow.Author.Tests.{eq-eqb}
 use Rattle.bitmap.specs.Bits.{bit}
 use Rattle.bitmap.specs.Blocks.{member}
@@ -16,13 +15,12 @@ use Rattle.model.specs.Answers.{due, storesValue}
 use Rattle.model.specs.Errors.{unlessRefused}
 use Rattle.model.specs.Memory.{zeroMemory}
 use Rattle.model.specs.Stores.{writes}
-use Rattle.model.specs.Valid.{valid}
-use Rattle.model.specs.Disk.{diskOf, diskBitmap, logLength, entriesIn, logEntries, entriesValid, durable}
+use Rattle.model.specs.Disk.{diskBitmap, logLength, entriesIn, entriesValid, durable}
 use Rattle.model.specs.Causes.{diskLengthWrong, blocksOutOfRange}
-use Rattle.model.specs.Ledger.{Ledger, holders, takers, emptyLedger}
+use Rattle.model.specs.Ledger.{holders}
 use Rattle.model.specs.Calls.Format.{formatError, formatted, formatDisk}
 use Rattle.model.specs.Calls.Opening.{openError, recoveryDue, opened, openAnswer, openMemory}
-use Rattle.model.specs.World.{Call, World, worldOf, begin, step, run, openCall, startCall, allocateCall, deallocateCall, precommitCall, commitCall, rollbackCall, storeCall, statusCall, crashCall}
+use Rattle.model.specs.World.{Call, World, begin, step, run, openCall, startCall, allocateCall, deallocateCall, precommitCall, commitCall, rollbackCall, storeCall, statusCall, crashCall}
 use Rattle.model.proofs.Laws.DiskParts.{none-first, blocks-inRange, diskOf-opens, diskOf-durable}
 use Rattle.model.proofs.Laws.Valid.{noBits-empty}
 use Rattle.crash_safety.specs.Statement.{Safe, StoresAccepted, afterStores, openDue, CrashSafe}
@@ -94,6 +92,10 @@ begins blocks some-blocks few =
       related = λ v. absurd (mathlib.Core.Bool.false≢true (sym zero-invalid ∙ v));
     }
 
+pub begins-formatted : (blocks : ℕ) → 1 ≤ blocks → blocks ≤ 4096 → (disk : List ℕ) → length disk ≡ 386 → Invariant (begin (formatDisk disk blocks))
+begins-formatted blocks some-blocks few disk size =
+    subst (λ (d : List ℕ). Invariant (begin d)) (sym (accepted-format disk blocks size some-blocks few)) (begins blocks some-blocks few)
+
 -- ---- what the invariant gives
 
 pub safe : (w : World) → Invariant w → Safe w
@@ -119,5 +121,4 @@ safe w i =
 pub crash-safe : CrashSafe
 crash-safe blocks some-blocks few disk size calls =
     safe (run calls (begin (formatDisk disk blocks)))
-    (run-keeps calls (begin (formatDisk disk blocks))
-    (subst (λ (d : List ℕ). Invariant (begin d)) (sym (accepted-format disk blocks size some-blocks few)) (begins blocks some-blocks few)))
+    (run-keeps calls (begin (formatDisk disk blocks)) (begins-formatted blocks some-blocks few disk size))

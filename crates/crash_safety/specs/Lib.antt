@@ -1,2 +1,3 @@
--- Demand 3: the claim.
+-- Demand 3: the claim; and beside it that memory and disk stay in order.
 pub mod Statement
+pub mod InOrder

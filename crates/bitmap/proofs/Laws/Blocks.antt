@@ -5,11 +5,11 @@ use native.Mathlib.Decide.{le-ind}
 use native.Mathlib.Omega.{arith}
 use mathlib.Core.Path.{_≡_, refl, sym, ap, _∙_}
 use mathlib.Core.Logic.{_⊎_, inl, inr, ⊎-elim}
-use mathlib.Core.Bool.{Bool, true, false, cond, _||_, and-eq-true-iff, or-assoc, or-true, false≢true}
+use mathlib.Core.Bool.{Bool, true, false, not, cond, _||_, and-eq-true-iff, or-assoc, or-true, false≢true}
 use mathlib.Core.List.{List, [], _∷_, _++_}
 use lib.ListN.{length, take}
 use lib.Dec.{eqb}
-use borrow.Author.Tests.{eqb-true, eq-eqb}
+use borrow.Author.Tests.{eqb-true, eq-eqb, not-true}
 use Rattle.bitmap.specs.Bits.{bit}
 use Rattle.bitmap.specs.Blocks.{scan, from, allocatedBlocks, isAvailable, availableBlocks, member, allBelow}
 use Rattle.bitmap.proofs.Laws.Bits.{below-or-from}
@@ -118,6 +118,16 @@ allocated-below m sam b h = let f = member-from-true (bit sam) m 0 b h in (f .1,
 pub available-below : (m : ℕ) (sam «com» : List ℕ) (b : ℕ) → member b (availableBlocks m sam «com») ≡ true → (b < m) × (isAvailable sam «com» b ≡ true)
 unfolding availableBlocks
 available-below m sam «com» b h = let f = member-from-true (isAvailable sam «com») m 0 b h in (f .1, f .2)
+
+-- an available block has SAM 0: its release, if it had one, is committed
+pub available-free : (sam «com» : List ℕ) (b : ℕ) → isAvailable sam «com» b ≡ true → bit sam b ≡ false
+unfolding isAvailable
+available-free sam «com» b e = not-true (bit sam b) (and-eq-true-iff (not (bit sam b)) (not (bit «com» b)) .0 e .0)
+
+-- and COM 0: no transaction has taken it
+pub available-unused : (sam «com» : List ℕ) (b : ℕ) → isAvailable sam «com» b ≡ true → bit «com» b ≡ false
+unfolding isAvailable
+available-unused sam «com» b e = not-true (bit «com» b) (and-eq-true-iff (not (bit sam b)) (not (bit «com» b)) .0 e .1)
 
 -- ---- rising lists
 

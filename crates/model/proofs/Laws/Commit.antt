@@ -4,20 +4,17 @@ use native.Mathlib.Nat.{not-le-of-lt}
 use native.Mathlib.Omega.{arith}
 use mathlib.Core.Path.{_≡_, refl, sym, ap, ap₂, _∙_}
 use mathlib.Core.Logic.{⊎-elim}
-use mathlib.Core.Bool.{Bool, true, false, not, cond, xor, Bool·beq, _&&_, false≢true}
-use mathlib.Core.List.{List}
-use lib.ListN.{getD}
+use mathlib.Core.Bool.{Bool, true, false, not, cond, xor, _&&_, false≢true}
 use Rattle.bitmap.specs.Bits.{bit}
 use Rattle.bitmap.specs.Majority.{majority}
 use Rattle.bitmap.proofs.Laws.Bits.{bit-below, bit-from, below-or-from, noBits-bit}
 use Rattle.bitmap.proofs.Laws.Majority.{majority-untouched, majority-touched}
-use Rattle.model.specs.Types.{Bitmap, Slot, Memory}
+use Rattle.model.specs.Types.{Bitmap, Memory}
 use Rattle.model.specs.Memory.{slotAt, slotOf, isActive, samBit, comBit, tamBit, touched, volumeBitmap}
 use Rattle.model.specs.Commit.{committedSam, refreshed}
-use Rattle.model.specs.Valid.{touches}
 use Rattle.model.proofs.Laws.Valid.{ValidParts, touchesBlock, touches-at, touches-one, touches-two, slot-below}
 
-same-or-not : (a b : Bool) → xor a b ≡ false → a ≡ b
+pub same-or-not : (a b : Bool) → xor a b ≡ false → a ≡ b
 unfolding xor
 same-or-not true true e = refl
 same-or-not true false e = e
@@ -25,7 +22,7 @@ same-or-not false true e = sym e
 same-or-not false false e = refl
 
 -- two that differ from a third are the same
-both-differ : (a b c : Bool) → xor a c ≡ true → xor c b ≡ true → b ≡ a
+pub both-differ : (a b c : Bool) → xor a c ≡ true → xor c b ≡ true → b ≡ a
 unfolding xor
 both-differ true true c e f = refl
 both-differ true false true e f = absurd (false≢true e)

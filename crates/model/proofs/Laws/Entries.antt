@@ -12,7 +12,7 @@ use lib.Dec.{leb, ltb, eqb}
 use borrow.Author.Tests.{ltb-true, leb-true, eqb-false, eq-eqb, lt-ltb, le-leb}
 use Rattle.bitmap.specs.Sizes.{wordsFor}
 use Rattle.bitmap.specs.Bits.{noBitsFrom}
-use Rattle.model.specs.Sizes.{lengthAt, logAt}
+use Rattle.model.specs.Sizes.{lengthAt}
 use Rattle.model.specs.Stores.{Store, _≔_, writes, changesFrom, changes, logStores, onDisk, mendStores, commitStores}
 use Rattle.model.specs.Disk.{entriesIn, entriesValid, entriesAgree}
 use Rattle.model.proofs.Laws.Writes.{and-both, and-first, and-second}
@@ -30,9 +30,7 @@ length-mendStores es = length-append (map onDisk es) (lengthAt ≔ 0 ∷ []) ∙
 
 pub length-commitStores : (es : List Store) → length (commitStores es) ≡ 3 * length es + 2
 unfolding commitStores
-length-commitStores es =
-    omega
-    (arith, length-append (logStores logAt es) (lengthAt ≔ length es ∷ mendStores es), length-logStores logAt es, length-mendStores es)
+length-commitStores es = simp (length-append, length-logStores, length-mendStores) (omega arith)
 
 -- every entry's place is below n
 abbrev pub Places : ℕ → List Store → Type 0

@@ -1,6 +1,6 @@
 -- A recovery that is crashed after any number of its stores: the disk stands for the same bitmap throughout.
 use Prim.Native.Nat.{ℕ, _+_, _≤_}
-use mathlib.Core.Path.{_≡_, refl, sym, ap, _∙_, subst}
+use mathlib.Core.Path.{_≡_, refl, sym, ap, ap₂, _∙_, subst}
 use mathlib.Core.Bool.{true}
 use mathlib.Core.Option.{none}
 use mathlib.Core.List.{List, map}
@@ -8,17 +8,16 @@ use native.Mathlib.Omega.{arith}
 use native.Mathlib.Decide.{decLe}
 use lib.ListN.{length, take, drop}
 use lib.Seq.{take-all}
-use borrow.Author.Tests.{eq-eqb}
 use Rattle.bitmap.specs.Bits.{noBitsFrom}
 use Rattle.model.specs.Types.{Memory}
 use Rattle.model.specs.Sizes.{logAt}
 use Rattle.model.specs.Stores.{Store, writes, after, onDisk, mendStores}
-use Rattle.model.specs.Valid.{sameWords}
 use Rattle.model.specs.Disk.{diskBlocks, logLength, diskBitmap, diskOf, entriesIn, logEntries, entriesValid, durable, entriesAgree, recoveryMatches}
 use Rattle.model.specs.Calls.Opening.{openError}
-use Rattle.model.proofs.Laws.Writes.{and-both, length-writes, writes-take-again, writes-take-drop, words-same, store-next-one}
+use Rattle.model.proofs.Laws.Writes.{length-writes, writes-take-again, writes-take-drop, store-next-one}
 use Rattle.model.proofs.Laws.Entries.{Places, places-take, valid-places, length-mendStores, take-mendStores, length-entriesIn, entries-agree, writes-noBits, writes-take-noBits}
 use Rattle.model.proofs.Laws.DiskParts.{diskOf-bitmap, diskOf-entries, diskOf-durable, diskOf-opens, disk-parts, disk-bitmap-length, disk-log-length, writes-onDisk, writes-mend, log-valid}
+use Rattle.model.proofs.Laws.Matching.{parts-matching}
 pub use Rattle.model.proofs.Laws.DiskParts.{Opens, opens-parts, parts-open}
 
 -- the disk after k stores of its recovery
@@ -196,31 +195,19 @@ module _ (disk : List ℕ) (opens : openError disk ≡ none) where
 
   -- the disk in recovery is as the memory and its stores done leave it
   pub recovery-matches : (memory : Memory) (k : ℕ) → k ≤ logLength disk → memory .blocks ≡ diskBlocks disk → memory .sam .words ≡ durable disk → recoveryMatches memory (recoveryDisk disk k) k (logLength disk + 1) ≡ true
-  unfolding recoveryMatches
   recovery-matches memory k h b s =
-      and-both
-      (and-both
-      (and-both
-      (and-both
-      (and-both
-      (eq-eqb (diskBlocks mended) (memory .blocks) (recovery-blocks k ∙ sym b))
-      (eq-eqb (logLength mended + 1) (logLength disk + 1) (ap (λ (n : ℕ). n + 1) (mending-logLength k h))))
-      (log-valid mended (mended-parts .few-entries) (mended-parts .entries)))
-      agree)
-      noBits)
-      same
+      parts-matching memory mended k (logLength disk + 1)
+      (record {
+        blocks = recovery-blocks k ∙ sym b;
+        due-is = ap (λ (n : ℕ). n + 1) (mending-logLength k h);
+        log = log-valid mended (mended-parts .few-entries) (mended-parts .entries);
+        agrees = rw (s, mending-entries k h) durable-agrees;
+        noBits = ap (λ (n : ℕ). noBitsFrom n (diskBitmap mended)) (b ∙ sym (recovery-blocks k)) ∙ mended-parts .noBits;
+        rest = ap₂ (λ (es : List Store) (words : List ℕ). writes (drop k es) words) (mending-entries k h) (mending-bitmap k h) ∙ rewritten k ∙ sym s;
+      })
     where
       mended : List ℕ
       mended = recoveryDisk disk k
 
       mended-parts : Opens mended
       mended-parts = opens-parts mended (recovery-opens k)
-
-      agree : entriesAgree (memory .sam .words) (logEntries mended) ≡ true
-      agree = rw (s, mending-entries k h) durable-agrees
-
-      noBits : noBitsFrom (memory .blocks) (diskBitmap mended) ≡ true
-      noBits = ap (λ (n : ℕ). noBitsFrom n (diskBitmap mended)) (b ∙ sym (recovery-blocks k)) ∙ mended-parts .noBits
-
-      same : sameWords (writes (drop k (logEntries mended)) (diskBitmap mended)) (memory .sam .words) ≡ true
-      same = rw (s, mending-entries k h, mending-bitmap k h, rewritten k) (words-same (durable disk))

@@ -1,0 +1,155 @@
+-- The memory after a commit: its slots one by one, and that it is valid.
+use Prim.Native.Nat.{ℕ, _+_, _<_}
+use native.Mathlib.Omega.{arith}
+use mathlib.Core.Path.{_≡_, refl, sym, ap, ap₂, _∙_, subst}
+use mathlib.Core.Bool.{Bool, true, false, not, cond, xor, _&&_, _||_}
+use mathlib.Core.List.{List, map}
+use lib.ListN.{length, getD, set, length-set, length-map, List·getD-map}
+use lib.Seq.{getD-set-same, getD-set-other}
+use Rattle.bitmap.specs.Bits.{bit, noBitsFrom, IsBitmap}
+use Rattle.bitmap.proofs.Laws.Bits.{bitmapOf-is, noBits-bit, noBits-bitmapOf}
+use Rattle.model.specs.Types.{Bitmap, Slot, Memory}
+use Rattle.model.specs.Memory.{slotAt, idleSlot, isActive, samBit, comBit, tamBit, touched, slotOf, volumeBitmap}
+use Rattle.model.specs.Commit.{committedSam, refreshed, committed}
+use Rattle.model.specs.Valid.{slotValid, pendingValid}
+use Rattle.model.proofs.Laws.Valid.{ValidParts, touchesBlock, idle-valid}
+use Rattle.model.proofs.Laws.Commit.{same-or-not, both-differ, touched-differs, committed-bits, refreshed-bits, others-kept}
+use Rattle.model.proofs.Laws.Touches.{one, xor-self, differs, allSlots-set, allSlots-map, active-valid, balanced-agree}
+
+-- the new SAM is a bitmap of the volume
+pub committed-bitmap : (memory : Memory) (s : ℕ) → IsBitmap (committedSam memory s .words)
+unfolding committedSam
+committed-bitmap memory s = bitmapOf-is (memory .blocks) _
+
+pub committed-below : (memory : Memory) (s : ℕ) → noBitsFrom (memory .blocks) (committedSam memory s .words) ≡ true
+unfolding committedSam
+committed-below memory s = noBits-bitmapOf (memory .blocks) _
+
+-- ---- the other slots
+
+-- each is refreshed
+pub refreshed-at : (memory : Memory) (new : Bitmap) (s t : ℕ) → (t ≡ s → ⊥) → getD (set (map (refreshed memory new) (memory .slots)) s idleSlot) t idleSlot ≡ refreshed memory new (slotAt memory t)
+unfolding refreshed
+refreshed-at memory new s t n =
+    getD-set-other (map (refreshed memory new) (memory .slots)) s t idleSlot idleSlot n
+    ∙ List·getD-map (refreshed memory new) (memory .slots) t idleSlot
+
+cond-state : (t : Bool) (new slot : Slot) → new .state ≡ slot .state → isActive (cond t new slot .state) ≡ isActive (slot .state)
+cond-state true new slot e = ap isActive e
+cond-state false new slot e = refl
+
+cond-false : (t : Bool) (new slot : Slot) → t ≡ false → cond t new slot ≡ slot
+cond-false t new slot e = ap (λ (u : Bool). cond u new slot) e
+
+-- it is active as before
+pub refreshed-state : (memory : Memory) (new : Bitmap) (slot : Slot) → isActive (refreshed memory new slot .state) ≡ isActive (slot .state)
+unfolding refreshed
+refreshed-state memory new slot = cond-state (isActive (slot .state)) _ slot refl
+
+-- an idle one stays
+pub refreshed-idle : (memory : Memory) (new : Bitmap) (slot : Slot) → isActive (slot .state) ≡ false → refreshed memory new slot ≡ slot
+unfolding refreshed
+refreshed-idle memory new slot e = cond-false (isActive (slot .state)) _ slot e
+
+refreshed-valid : (memory : Memory) (new : Bitmap) (slot : Slot) → slotValid (memory .blocks) slot ≡ true → slotValid (memory .blocks) (refreshed memory new slot) ≡ true
+unfolding refreshed
+refreshed-valid memory new slot e = go (isActive (slot .state)) refl _
+  where
+    go : (t : Bool) → isActive (slot .state) ≡ t → (bits : ℕ → Bool) → slotValid (memory .blocks) (cond t (slotOf (slot .state) (volumeBitmap memory bits)) slot) ≡ true
+    go true active bits = active-valid (memory .blocks) (slotOf (slot .state) (volumeBitmap memory bits)) active (noBits-bitmapOf (memory .blocks) bits)
+    go false idle bits = e
+
+-- ---- the memory
+
+-- two bits differ as two others do if each way they differ is the same
+same-differ : (a b x y : Bool) → (a && not b) ≡ (x && not y) → (b && not a) ≡ (y && not x) → xor a b ≡ xor x y
+unfolding xor
+same-differ a b x y p q = sym (either a b) ∙ ap₂ _||_ p q ∙ either x y
+  where
+    either : (u v : Bool) → ((u && not v) || (v && not u)) ≡ xor u v
+    either true true = refl
+    either true false = refl
+    either false true = refl
+    either false false = refl
+
+module _ (memory : Memory) (s : ℕ) (parts : ValidParts memory) (h : s < length (memory .slots)) (active : isActive (slotAt memory s .state) ≡ true) where
+  -- another slot has touched what it had
+  others-touch : (b t : ℕ) → (t ≡ s → ⊥) → touchesBlock (committed memory s) (slotAt (committed memory s) t) b ≡ touchesBlock memory (slotAt memory t) b
+  unfolding committed touched
+  others-touch b t n =
+      ap (λ (slot : Slot). isActive (slot .state) && xor (tamBit slot b) (bit (committedSam memory s .words) b)) (refreshed-at memory (committedSam memory s) s t n)
+      ∙ go (isActive (slotAt memory t .state)) refl
+    where
+      slot : Slot
+      slot = slotAt memory t
+
+      after : Slot
+      after = refreshed memory (committedSam memory s) slot
+
+      go : (u : Bool) → isActive (slot .state) ≡ u → (isActive (after .state) && xor (tamBit after b) (bit (committedSam memory s .words) b)) ≡ (isActive (slot .state) && touched memory slot b)
+      go true e =
+          let kept =
+          others-kept memory parts s t b n active e (bit (committedSam memory s .words) b) (committed-bits memory parts s active b) (tamBit after b)
+          (refreshed-bits memory parts (committedSam memory s) t e (λ x outside. noBits-bit (memory .blocks) (committedSam memory s .words) x (committed-below memory s) outside) b) in
+          ap₂ _&&_ (refreshed-state memory (committedSam memory s) slot) (same-differ _ _ _ _ (kept .0) (kept .1))
+      go false e =
+          ap (λ (u : Bool). u && xor (tamBit after b) (bit (committedSam memory s .words) b)) (refreshed-state memory (committedSam memory s) slot ∙ e)
+          ∙ sym (ap (λ (u : Bool). u && touched memory slot b) e)
+
+  -- the slot is idle; what it had touched is in SAM now, as it was in COM
+  own-touch : (b : ℕ) → b < memory .blocks → one (differs memory b) ≡ one (touchesBlock memory (slotAt memory s) b) + one (xor (bit (committedSam memory s .words) b) (comBit memory b))
+  unfolding touched
+  own-touch b inside = go (xor tam sam) refl
+    where
+      sam : Bool
+      sam = samBit memory b
+
+      tam : Bool
+      tam = tamBit (slotAt memory s) b
+
+      new : bit (committedSam memory s .words) b ≡ tam
+      new = committed-bits memory parts s active b
+
+      go : (t : Bool) → xor tam sam ≡ t → one (differs memory b) ≡ one (touchesBlock memory (slotAt memory s) b) + one (xor (bit (committedSam memory s .words) b) (comBit memory b))
+      go true e =
+          let touches-it : touchesBlock memory (slotAt memory s) b ≡ true = ap₂ _&&_ active e in
+          let differ = touched-differs memory parts s b inside touches-it in
+          omega (
+            arith,
+            ap one differ,
+            ap one touches-it,
+            ap one (ap₂ xor new (both-differ tam (comBit memory b) sam e differ) ∙ xor-self tam),
+          )
+      go false e =
+          omega (
+            arith,
+            ap one (ap₂ _&&_ active e),
+            ap (λ (t : Bool). one (xor t (comBit memory b))) (new ∙ same-or-not tam sam e),
+          )
+
+  pub committed-valid : ValidParts (committed memory s)
+  unfolding committed pendingValid
+  committed-valid =
+      record {
+        some-blocks = parts .some-blocks;
+        few-blocks = parts .few-blocks;
+        sam-below = committed-below memory s;
+        com-below = parts .com-below;
+        slots-valid =
+            allSlots-set (slotValid (memory .blocks)) slots s idleSlot (idle-valid (memory .blocks))
+            (allSlots-map (slotValid (memory .blocks)) (refreshed memory (committedSam memory s)) (memory .slots) (refreshed-valid memory (committedSam memory s)) (parts .slots-valid));
+        touches-agree =
+            balanced-agree memory (committed memory s) s parts refl (sym size) h
+            (λ b inside t n. others-touch b t n)
+            (λ b inside.
+            subst (λ (slot : Slot). one (touchesBlock (committed memory s) slot b) + one (differs memory b) ≡ one (touchesBlock memory (slotAt memory s) b) + one (differs (committed memory s) b))
+            (sym (getD-set-same slots s idleSlot idleSlot (omega (arith, size, length-set slots s idleSlot))))
+            (omega (arith, own-touch b inside)));
+        pending-valid = refl;
+      }
+    where
+      slots : List Slot
+      slots = map (refreshed memory (committedSam memory s)) (memory .slots)
+
+      size : length (set slots s idleSlot) ≡ length (memory .slots)
+      size = length-set slots s idleSlot ∙ length-map (memory .slots) (refreshed memory (committedSam memory s))

@@ -1,0 +1,89 @@
+-- The memory that an open gives is valid, with any number of its stores done, and the disk is as it leaves it.
+use Prim.Native.Nat.{ℕ, zero, suc, _+_, _/_, _≤_, _<_}
+use native.Mathlib.Omega.{arith}
+use mathlib.Core.Path.{_≡_, refl, sym, ap, _∙_}
+use mathlib.Core.Bool.{true}
+use mathlib.Core.Option.{none}
+use mathlib.Core.List.{List}
+use lib.ListN.{replicate, drop}
+use borrow.Author.Tests.{le-leb, lt-ltb, eq-eqb}
+use Rattle.bitmap.specs.Bits.{bit}
+use Rattle.bitmap.proofs.Laws.Blocks.{allBelow-all}
+use Rattle.model.specs.Types.{Pending, Nothing, Recovery, Memory}
+use Rattle.model.specs.Memory.{quietMemory, bitmap, idleSlot}
+use Rattle.model.specs.Sizes.{logAt}
+use Rattle.model.specs.Stores.{writes}
+use Rattle.model.specs.Valid.{allSlots, slotValid, touches, touchesAgree, isQuiet, pendingValid}
+use Rattle.model.specs.Disk.{diskBlocks, logLength, diskBitmap, diskOf, entriesIn, logEntries, durable, diskMatches}
+use Rattle.model.specs.Calls.Opening.{openError, recoveryDue, recoveryPending, opened}
+use Rattle.model.proofs.Laws.Writes.{and-both, words-same}
+use Rattle.model.proofs.Laws.DiskParts.{Opens, opens-parts, disk-parts}
+use Rattle.model.proofs.Laws.Valid.{ValidParts, idle-valid}
+use Rattle.model.proofs.Laws.Touches.{one, xor-self}
+use Rattle.model.proofs.Laws.Matching.{quiet-matches}
+use Rattle.model.proofs.Laws.RecoveryLog.{durable-length, durable-noBits, recovery-matches}
+
+all-idle : (blocks n : ℕ) → allSlots (slotValid blocks) (replicate n idleSlot) ≡ true
+unfolding allSlots
+all-idle blocks zero = refl
+all-idle blocks (suc n) = and-both (idle-valid blocks) (all-idle blocks n)
+
+module _ (disk : List ℕ) (opens : openError disk ≡ none) where
+  parts : Opens disk
+  parts = opens-parts disk opens
+
+  -- the memory that an open gives, with this work pending
+  abbrev memoryWith : Pending → Memory
+  memoryWith pending = quietMemory (diskBlocks disk) (bitmap (durable disk)) pending
+
+  -- no slot has touched a block, and COM is SAM
+  pub quiet-valid : (pending : Pending) → pendingValid (memoryWith pending) pending ≡ true → ValidParts (memoryWith pending)
+  unfolding touchesAgree touches
+  quiet-valid pending valid =
+      record {
+        some-blocks = parts .some-blocks;
+        few-blocks = parts .few-blocks;
+        sam-below = durable-noBits disk opens;
+        com-below = durable-noBits disk opens;
+        slots-valid = all-idle (diskBlocks disk) 8;
+        touches-agree = allBelow-all (diskBlocks disk) _ (λ b _. eq-eqb 0 _ (sym (ap one (xor-self (bit (durable disk) b)))));
+        pending-valid = valid;
+      }
+
+  -- k stores of its recovery are done
+  pub recovery-pending-valid : (k due : ℕ) → due ≡ logLength disk + 1 → 1 ≤ logLength disk → k < due → pendingValid (memoryWith (Recovery k due)) (Recovery k due) ≡ true
+  unfolding pendingValid isQuiet allSlots
+  recovery-pending-valid k due due-is logged h =
+      and-both
+      (and-both
+      (and-both (words-same (durable disk)) (le-leb 2 due (omega arith)))
+      (le-leb due ((diskBlocks disk + 31) / 32 + 1) (omega (arith, parts .few-entries))))
+      (lt-ltb k due h)
+
+  -- ---- just opened
+
+  by-log-matches : (p : ℕ) → logLength disk ≡ p → diskMatches (memoryWith (recoveryPending p)) disk (recoveryPending p) ≡ true
+  unfolding recoveryPending recoveryDue diskMatches durable logEntries entriesIn writes
+  by-log-matches zero e =
+      quiet-matches disk (diskBlocks disk) (durable disk) (drop logAt disk) (durable-length disk opens)
+      (disk-parts disk (omega (arith, parts .size))
+      ∙ ap (λ (p : ℕ). diskOf (diskBlocks disk) p (diskBitmap disk) (drop logAt disk)) e
+      ∙ ap (λ (words : List ℕ). diskOf (diskBlocks disk) 0 words (drop logAt disk))
+      (sym (ap (λ (p : ℕ). writes (entriesIn p (drop logAt disk)) (diskBitmap disk)) e)))
+  by-log-matches (suc p) e =
+      ap (λ (n : ℕ). diskMatches (memoryWith (Recovery 0 n)) disk (Recovery 0 n)) (ap (λ (n : ℕ). n + 1) (sym e))
+      ∙ recovery-matches disk opens (memoryWith (Recovery 0 (logLength disk + 1))) 0 (omega (arith, e)) refl refl
+
+  pub opened-matches : diskMatches (opened disk) disk (opened disk .pending) ≡ true
+  unfolding opened
+  opened-matches = by-log-matches (logLength disk) refl
+
+  by-log-valid : (p : ℕ) → logLength disk ≡ p → ValidParts (memoryWith (recoveryPending p))
+  unfolding recoveryPending recoveryDue pendingValid
+  by-log-valid zero e = quiet-valid Nothing refl
+  by-log-valid (suc p) e =
+      quiet-valid (Recovery 0 (suc p + 1)) (recovery-pending-valid 0 (suc p + 1) (omega (arith, e)) (omega (arith, e)) (omega arith))
+
+  pub opened-valid : ValidParts (opened disk)
+  unfolding opened
+  opened-valid = by-log-valid (logLength disk) refl

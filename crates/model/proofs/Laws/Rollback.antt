@@ -1,0 +1,73 @@
+-- What a rollback does in a valid memory: COM becomes SAM where the slot has touched a block, and stays elsewhere.
+use Prim.Native.Nat.{ℕ, _+_, _≤_, _<_}
+use native.Mathlib.Omega.{arith}
+use mathlib.Core.Path.{_≡_, refl, sym, ap, ap₂, _∙_}
+use mathlib.Core.Logic.{⊎-elim}
+use mathlib.Core.Bool.{Bool, true, false, not, cond, xor, _&&_}
+use lib.ListN.{length}
+use Rattle.bitmap.specs.Bits.{bit}
+use Rattle.bitmap.specs.Majority.{majority}
+use Rattle.bitmap.proofs.Laws.Bits.{bit-below, bit-from, below-or-from, noBits-bit, noBits-bitmapOf}
+use Rattle.bitmap.proofs.Laws.Majority.{rollback-untouched, rollback-touched}
+use Rattle.model.specs.Types.{Nothing, Memory}
+use Rattle.model.specs.Memory.{slotAt, idleSlot, isActive, samBit, comBit, tamBit, touched}
+use Rattle.model.specs.Calls.Rollback.{rolledBackCom, rolledBack}
+use Rattle.model.proofs.Laws.Valid.{ValidParts, touchesBlock, idle-valid}
+use Rattle.model.proofs.Laws.Commit.{same-or-not, touched-differs}
+use Rattle.model.proofs.Laws.Touches.{one, xor-self, differs, touching-valid}
+
+module _ (memory : Memory) (parts : ValidParts memory) (s : ℕ) where
+  pub rolled-back-bits : (b : ℕ) → bit (rolledBackCom memory s .words) b ≡ cond (touched memory (slotAt memory s) b) (samBit memory b) (comBit memory b)
+  unfolding rolledBackCom touched
+  rolled-back-bits b = ⊎-elim (λ (h : b < memory .blocks). inside h) (λ (h : memory .blocks ≤ b). outside h) (below-or-from b (memory .blocks))
+    where
+      sam : Bool
+      sam = samBit memory b
+
+      tam : Bool
+      tam = tamBit (slotAt memory s) b
+
+      bits : ℕ → Bool
+      bits x = majority (comBit memory x) (samBit memory x) (not (tamBit (slotAt memory s) x))
+
+      go : (t : Bool) → xor tam sam ≡ t → majority (comBit memory b) sam (not tam) ≡ cond t sam (comBit memory b)
+      go true e = rollback-touched sam (comBit memory b) tam e
+      go false e = ap (λ (t : Bool). majority (comBit memory b) sam (not t)) (same-or-not tam sam e) ∙ rollback-untouched sam (comBit memory b)
+
+      inside : b < memory .blocks → bit (rolledBackCom memory s .words) b ≡ cond (xor tam sam) sam (comBit memory b)
+      inside h = bit-below (memory .blocks) bits b (parts .few-blocks) h ∙ go (xor tam sam) refl
+
+      none-either : (t : Bool) → cond t false false ≡ false
+      none-either true = refl
+      none-either false = refl
+
+      outside : memory .blocks ≤ b → bit (rolledBackCom memory s .words) b ≡ cond (xor tam sam) sam (comBit memory b)
+      outside h =
+          bit-from (memory .blocks) bits b h
+          ∙ sym
+          (ap₂ (cond (xor tam sam)) (noBits-bit (memory .blocks) (memory .sam .words) b (parts .sam-below) h) (noBits-bit (memory .blocks) (memory .com .words) b (parts .com-below) h)
+          ∙ none-either (xor tam sam))
+
+  -- the memory after it is valid
+  pub rolled-back-valid : memory .pending ≡ Nothing → s < length (memory .slots) → isActive (slotAt memory s .state) ≡ true → ValidParts (rolledBack memory s)
+  unfolding rolledBack rolledBackCom
+  rolled-back-valid nothing h active =
+      touching-valid memory s idleSlot (rolledBackCom memory s) parts nothing h (idle-valid (memory .blocks)) (noBits-bitmapOf (memory .blocks) _)
+      (λ b inside. go b inside (touched memory (slotAt memory s) b) refl)
+    where
+      go : (b : ℕ) → b < memory .blocks → (t : Bool) → touched memory (slotAt memory s) b ≡ t
+          → 0 + one (differs memory b) ≡ one (touchesBlock memory (slotAt memory s) b) + one (xor (samBit memory b) (bit (rolledBackCom memory s .words) b))
+      go b inside true e =
+          let touches-it : touchesBlock memory (slotAt memory s) b ≡ true = ap₂ _&&_ active e in
+          let back : bit (rolledBackCom memory s .words) b ≡ samBit memory b = rolled-back-bits b ∙ ap (λ (t : Bool). cond t (samBit memory b) (comBit memory b)) e in
+          omega (
+            arith,
+            ap one (touched-differs memory parts s b inside touches-it),
+            ap one touches-it,
+            ap (λ (t : Bool). one (xor (samBit memory b) t)) back,
+            ap one (xor-self (samBit memory b)),
+          )
+      go b inside false e =
+          let untouched : touchesBlock memory (slotAt memory s) b ≡ false = ap₂ _&&_ active e in
+          let kept : bit (rolledBackCom memory s .words) b ≡ comBit memory b = rolled-back-bits b ∙ ap (λ (t : Bool). cond t (samBit memory b) (comBit memory b)) e in
+          omega (arith, ap one untouched, ap (λ (t : Bool). one (xor (samBit memory b) t)) kept)

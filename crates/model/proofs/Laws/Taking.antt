@@ -1,0 +1,148 @@
+-- Allocate and deallocate turn blocks at which COM is SAM: COM and the slot's bitmap become SAM's complement there, so just
+-- this slot has touched them, and the memory after it is valid.
+use Prim.Native.Nat.{ℕ, _+_, _<_}
+use native.Mathlib.Omega.{arith}
+use mathlib.Core.Path.{_≡_, refl, sym, ap, ap₂, _∙_}
+use mathlib.Core.Bool.{Bool, true, false, not, cond, xor, _&&_, _||_, false≢true}
+use mathlib.Core.List.{List}
+use lib.ListN.{length}
+use lib.Dec.{eqb}
+use borrow.Author.Tests.{eqb-true}
+use Rattle.bitmap.specs.Bits.{bit}
+use Rattle.bitmap.specs.Blocks.{member}
+use Rattle.bitmap.proofs.Laws.Bits.{bit-below, noBits-bitmapOf}
+use Rattle.bitmap.proofs.Laws.Blocks.{member-take, available-below, available-free, available-unused}
+use Rattle.model.specs.Types.{Nothing, Slot, Memory}
+use Rattle.model.specs.Memory.{slotAt, slotOf, isActive, samBit, comBit, tamBit, touched, withCom, withSlot, volumeBitmap}
+use Rattle.model.specs.Causes.{available}
+use Rattle.model.specs.Calls.Allocate.{lowest, taking}
+use Rattle.model.specs.Calls.Deallocate.{freeing}
+use Rattle.model.proofs.Laws.Valid.{ValidParts, touchesBlock}
+use Rattle.model.proofs.Laws.Commit.{touched-differs}
+use Rattle.model.proofs.Laws.Touches.{one, xor-self, differs, active-valid, touching-valid}
+
+not-differs : (t : Bool) → xor (not t) t ≡ true
+unfolding xor
+not-differs true = refl
+not-differs false = refl
+
+differs-not : (t : Bool) → xor t (not t) ≡ true
+unfolding xor
+differs-not true = refl
+differs-not false = refl
+
+module _ (memory : Memory) (s : ℕ) (parts : ValidParts memory) (nothing : memory .pending ≡ Nothing) (h : s < length (memory .slots))
+    (active : isActive (slotAt memory s .state) ≡ true) where
+  -- where COM is SAM the slot has touched nothing
+  untouched : (b : ℕ) → b < memory .blocks → differs memory b ≡ false → touchesBlock memory (slotAt memory s) b ≡ false
+  untouched b inside e = go (touchesBlock memory (slotAt memory s) b) refl
+    where
+      go : (t : Bool) → touchesBlock memory (slotAt memory s) b ≡ t → touchesBlock memory (slotAt memory s) b ≡ false
+      go true t = absurd (false≢true (sym e ∙ touched-differs memory parts s b inside t))
+      go false t = t
+
+  turned-valid : (turned newCom newTam : ℕ → Bool)
+      → ((b : ℕ) → b < memory .blocks → turned b ≡ true → comBit memory b ≡ samBit memory b)
+      → ((b : ℕ) → newCom b ≡ cond (turned b) (not (samBit memory b)) (comBit memory b))
+      → ((b : ℕ) → newTam b ≡ cond (turned b) (not (samBit memory b)) (tamBit (slotAt memory s) b))
+      → ValidParts (withSlot (withCom memory (volumeBitmap memory newCom)) s (slotOf (slotAt memory s .state) (volumeBitmap memory newTam)))
+  unfolding touched
+  turned-valid turned newCom newTam same com-is tam-is =
+      touching-valid memory s slot (volumeBitmap memory newCom) parts nothing h
+      (active-valid (memory .blocks) slot active (noBits-bitmapOf (memory .blocks) newTam))
+      (noBits-bitmapOf (memory .blocks) newCom)
+      (λ b inside. go b inside (turned b) refl)
+    where
+      slot : Slot
+      slot = slotOf (slotAt memory s .state) (volumeBitmap memory newTam)
+
+      -- the new bits of COM and of the slot
+      com-bit : (b : ℕ) → b < memory .blocks → bit (volumeBitmap memory newCom .words) b ≡ cond (turned b) (not (samBit memory b)) (comBit memory b)
+      com-bit b inside = bit-below (memory .blocks) newCom b (parts .few-blocks) inside ∙ com-is b
+
+      tam-bit : (b : ℕ) → b < memory .blocks → tamBit slot b ≡ cond (turned b) (not (samBit memory b)) (tamBit (slotAt memory s) b)
+      tam-bit b inside = bit-below (memory .blocks) newTam b (parts .few-blocks) inside ∙ tam-is b
+
+      go : (b : ℕ) → b < memory .blocks → (t : Bool) → turned b ≡ t
+          → one (touchesBlock memory slot b) + one (differs memory b) ≡ one (touchesBlock memory (slotAt memory s) b) + one (xor (samBit memory b) (bit (volumeBitmap memory newCom .words) b))
+      go b inside true e =
+          let sam : Bool = samBit memory b in
+          let agree : differs memory b ≡ false = ap (xor sam) (same b inside e) ∙ xor-self sam in
+          let «com» : bit (volumeBitmap memory newCom .words) b ≡ not sam = com-bit b inside ∙ ap (λ (t : Bool). cond t (not sam) (comBit memory b)) e in
+          let tam : tamBit slot b ≡ not sam = tam-bit b inside ∙ ap (λ (t : Bool). cond t (not sam) (tamBit (slotAt memory s) b)) e in
+          let touches-it : touchesBlock memory slot b ≡ true = ap₂ (λ (x y : Bool). x && xor y sam) active tam ∙ not-differs sam in
+          omega (
+            arith,
+            ap one agree,
+            ap one touches-it,
+            ap one (untouched b inside agree),
+            ap one (ap (xor sam) «com» ∙ differs-not sam),
+          )
+      go b inside false e =
+          let sam : Bool = samBit memory b in
+          let «com» : bit (volumeBitmap memory newCom .words) b ≡ comBit memory b = com-bit b inside ∙ ap (λ (t : Bool). cond t (not sam) (comBit memory b)) e in
+          let tam : tamBit slot b ≡ tamBit (slotAt memory s) b = tam-bit b inside ∙ ap (λ (t : Bool). cond t (not sam) (tamBit (slotAt memory s) b)) e in
+          omega (
+            arith,
+            ap (λ (t : Bool). one (isActive (slotAt memory s .state) && xor t sam)) tam,
+            ap (λ (t : Bool). one (xor sam t)) «com»,
+          )
+
+-- ---- allocate
+
+-- a given block is below m, with SAM 0 and COM 0
+pub record Given (memory : Memory) (b : ℕ) : Type 0 where
+  pub below : b < memory .blocks
+  pub free : samBit memory b ≡ false
+  pub unused : comBit memory b ≡ false
+
+pub given : (memory : Memory) (count b : ℕ) → member b (lowest memory count) ≡ true → Given memory b
+unfolding lowest available
+given memory count b e =
+    let p = available-below (memory .blocks) (memory .sam .words) (memory .com .words) b (member-take count b _ e) in
+    record {
+      below = p .0;
+      free = available-free (memory .sam .words) (memory .com .words) b (p .1);
+      unused = available-unused (memory .sam .words) (memory .com .words) b (p .1);
+    }
+
+pub taking-valid : (memory : Memory) (s count : ℕ)
+    → ValidParts memory
+    → memory .pending ≡ Nothing
+    → s < length (memory .slots)
+    → isActive (slotAt memory s .state) ≡ true
+    → ValidParts (taking memory s (lowest memory count))
+unfolding taking
+taking-valid memory s count parts nothing h active =
+    turned-valid memory s parts nothing h active (λ b. member b blocks) _ _
+    (λ b inside e. given memory count b e .unused ∙ sym (given memory count b e .free))
+    (λ b. set-there b (member b blocks) refl (comBit memory b))
+    (λ b. set-there b (member b blocks) refl (tamBit (slotAt memory s) b))
+  where
+    blocks : List ℕ
+    blocks = lowest memory count
+
+    set-there : (b : ℕ) (t : Bool) → member b blocks ≡ t → (old : Bool) → (t || old) ≡ cond t (not (samBit memory b)) old
+    set-there b true e old = sym (ap not (given memory count b e .free))
+    set-there b false e old = refl
+
+-- ---- deallocate
+
+pub freeing-valid : (memory : Memory) (s block : ℕ)
+    → ValidParts memory
+    → memory .pending ≡ Nothing
+    → s < length (memory .slots)
+    → isActive (slotAt memory s .state) ≡ true
+    → samBit memory block ≡ true
+    → comBit memory block ≡ true
+    → ValidParts (freeing memory s block)
+unfolding freeing
+freeing-valid memory s block parts nothing h active allocated unfreed =
+    turned-valid memory s parts nothing h active (λ b. eqb b block) _ _
+    (λ b inside e. ap (comBit memory) (eqb-true b block e) ∙ unfreed ∙ sym (ap (samBit memory) (eqb-true b block e) ∙ allocated))
+    (λ b. cleared b (eqb b block) refl (comBit memory b))
+    (λ b. cleared b (eqb b block) refl (tamBit (slotAt memory s) b))
+  where
+    cleared : (b : ℕ) (t : Bool) → eqb b block ≡ t → (old : Bool) → (not t && old) ≡ cond t (not (samBit memory b)) old
+    cleared b true e old = sym (ap not (ap (samBit memory) (eqb-true b block e) ∙ allocated))
+    cleared b false e old = refl

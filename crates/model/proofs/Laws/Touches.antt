@@ -1,0 +1,158 @@
+-- How many slots have touched a block when one slot changes, and when the memory after it is valid.
+use Prim.Native.Nat.{ℕ, zero, suc, _+_, _<_}
+use native.Mathlib.Omega.{arith}
+use mathlib.Core.Path.{_≡_, refl, sym, ap, ap₂, _∙_, subst}
+use mathlib.Core.Bool.{Bool, true, false, cond, xor}
+use mathlib.Core.List.{List, [], _∷_, map}
+use lib.ListN.{length, getD, set, length-set}
+use lib.Seq.{getD-set-same, getD-set-other}
+use borrow.Author.Tests.{eq-eqb}
+use Rattle.bitmap.specs.Bits.{bit, noBitsFrom}
+use Rattle.bitmap.proofs.Laws.Blocks.{allBelow-all}
+use Rattle.model.specs.Types.{Bitmap, Slot, Pending, Nothing, Memory}
+use Rattle.model.specs.Memory.{slotAt, idleSlot, isActive, samBit, comBit, touched, emptyBitmap, withCom, withSlot, withPending}
+use Rattle.model.specs.Valid.{sameWords, allSlots, slotValid, touches, touchesAgree, pendingValid}
+use Rattle.model.proofs.Laws.Writes.{and-both, and-first, and-second}
+use Rattle.model.proofs.Laws.Valid.{ValidParts, touchesBlock, touches-at}
+
+-- 1 for true, 0 for false
+abbrev pub one : Bool → ℕ
+one t = cond t 1 0
+
+pub xor-self : (t : Bool) → xor t t ≡ false
+unfolding xor
+xor-self true = refl
+xor-self false = refl
+
+-- whether COM differs from SAM at a block
+abbrev pub differs : Memory → ℕ → Bool
+differs memory b = xor (samBit memory b) (comBit memory b)
+
+-- ---- the count
+
+-- slots that have touched a block alike are counted alike
+pub touches-same : (memory other : Memory) (b : ℕ) (slots others : List Slot)
+    → length slots ≡ length others
+    → ((t : ℕ) → touchesBlock other (getD others t idleSlot) b ≡ touchesBlock memory (getD slots t idleSlot) b)
+    → touches other b others ≡ touches memory b slots
+unfolding touches
+touches-same memory other b [] [] l same = refl
+touches-same memory other b [] (y ∷ others) l same = absurd (omega arith)
+touches-same memory other b (x ∷ slots) [] l same = absurd (omega arith)
+touches-same memory other b (x ∷ slots) (y ∷ others) l same =
+    ap₂ (λ (t : Bool) (n : ℕ). one t + n) (same 0) (touches-same memory other b slots others (omega arith) (λ t. same (suc t)))
+
+-- where only slot s has touched it otherwise, the count changes by this slot alone
+pub touches-changed : (memory other : Memory) (b s : ℕ) (slots others : List Slot)
+    → length slots ≡ length others
+    → s < length slots
+    → ((t : ℕ) → (t ≡ s → ⊥) → touchesBlock other (getD others t idleSlot) b ≡ touchesBlock memory (getD slots t idleSlot) b)
+    → touches other b others + one (touchesBlock memory (getD slots s idleSlot) b) ≡ touches memory b slots + one (touchesBlock other (getD others s idleSlot) b)
+unfolding touches
+touches-changed memory other b s [] others l h same = absurd (omega arith)
+touches-changed memory other b s (x ∷ slots) [] l h same = absurd (omega arith)
+touches-changed memory other b zero (x ∷ slots) (y ∷ others) l h same =
+    omega (arith, touches-same memory other b slots others (omega arith) (λ t. same (suc t) (λ e. omega (arith, e))))
+touches-changed memory other b (suc s) (x ∷ slots) (y ∷ others) l h same =
+    omega (
+      arith,
+      ap one (same 0 (λ e. omega (arith, e))),
+      touches-changed memory other b s slots others (omega arith) (omega arith) (λ t n. same (suc t) (λ e. n (omega (arith, e)))),
+    )
+
+-- ---- the slots
+
+pub allSlots-set : (test : Slot → Bool) (slots : List Slot) (s : ℕ) (slot : Slot) → test slot ≡ true → allSlots test slots ≡ true → allSlots test (set slots s slot) ≡ true
+unfolding allSlots
+allSlots-set test [] s slot new e = refl
+allSlots-set test (x ∷ slots) zero slot new e = and-both new (and-second (test x) _ e)
+allSlots-set test (x ∷ slots) (suc s) slot new e =
+    and-both (and-first (test x) _ e) (allSlots-set test slots s slot new (and-second (test x) _ e))
+
+pub allSlots-map : (test : Slot → Bool) (f : Slot → Slot) (slots : List Slot) → ((slot : Slot) → test slot ≡ true → test (f slot) ≡ true) → allSlots test slots ≡ true → allSlots test (map f slots) ≡ true
+unfolding allSlots
+allSlots-map test f [] keeps e = refl
+allSlots-map test f (x ∷ slots) keeps e =
+    and-both (keeps x (and-first (test x) _ e)) (allSlots-map test f slots keeps (and-second (test x) _ e))
+
+-- an active slot is valid if its bitmap has no bits from m on
+pub active-valid : (blocks : ℕ) (slot : Slot) → isActive (slot .state) ≡ true → noBitsFrom blocks (slot .tam .words) ≡ true → slotValid blocks slot ≡ true
+unfolding slotValid
+active-valid blocks slot active below = and-both below (ap (λ (t : Bool). cond t true (sameWords (slot .tam .words) (emptyBitmap .words))) active)
+
+-- ---- the memory
+
+-- a slot's change and the change of SAM and COM go together at a block
+abbrev pub Balanced : Memory → Memory → ℕ → ℕ → Type 0
+Balanced memory other s b = one (touchesBlock other (slotAt other s) b) + one (differs memory b) ≡ one (touchesBlock memory (slotAt memory s) b) + one (differs other b)
+
+-- then the slots' touches agree with SAM and COM as before
+pub balanced-agree : (memory other : Memory) (s : ℕ)
+    → ValidParts memory
+    → other .blocks ≡ memory .blocks
+    → length (memory .slots) ≡ length (other .slots)
+    → s < length (memory .slots)
+    → ((b : ℕ) → b < memory .blocks → (t : ℕ) → (t ≡ s → ⊥) → touchesBlock other (slotAt other t) b ≡ touchesBlock memory (slotAt memory t) b)
+    → ((b : ℕ) → b < memory .blocks → Balanced memory other s b)
+    → touchesAgree other ≡ true
+unfolding touchesAgree
+balanced-agree memory other s parts volume l h others own =
+    allBelow-all (other .blocks) _
+    (λ b below.
+    let inside : b < memory .blocks = omega (arith, volume, below) in
+    eq-eqb (touches other b (other .slots)) (one (differs other b))
+    (omega (
+      arith,
+      touches-changed memory other b s (memory .slots) (other .slots) l h (others b inside),
+      touches-at memory b (parts .touches-agree) inside,
+      own b inside,
+    )))
+
+-- the memory with another slot s, another COM and nothing pending is valid
+pub touching-valid : (memory : Memory) (s : ℕ) (slot : Slot) («com» : Bitmap)
+    → ValidParts memory
+    → memory .pending ≡ Nothing
+    → s < length (memory .slots)
+    → slotValid (memory .blocks) slot ≡ true
+    → noBitsFrom (memory .blocks) («com» .words) ≡ true
+    → ((b : ℕ) → b < memory .blocks → one (touchesBlock memory slot b) + one (differs memory b) ≡ one (touchesBlock memory (slotAt memory s) b) + one (xor (samBit memory b) (bit («com» .words) b)))
+    → ValidParts (withSlot (withCom memory «com») s slot)
+unfolding touched pendingValid
+touching-valid memory s slot «com» parts nothing h new below own =
+    record {
+      some-blocks = parts .some-blocks;
+      few-blocks = parts .few-blocks;
+      sam-below = parts .sam-below;
+      com-below = below;
+      slots-valid = allSlots-set (slotValid (memory .blocks)) (memory .slots) s slot new (parts .slots-valid);
+      touches-agree =
+          balanced-agree memory next s parts refl (sym (length-set (memory .slots) s slot)) h
+          (λ b inside t n. ap (λ (x : Slot). touchesBlock memory x b) (getD-set-other (memory .slots) s t slot idleSlot n))
+          (λ b inside.
+          subst (λ (x : Slot). one (touchesBlock memory x b) + one (differs memory b) ≡ one (touchesBlock memory (slotAt memory s) b) + one (differs next b))
+          (sym (getD-set-same (memory .slots) s slot idleSlot h))
+          (own b inside));
+      pending-valid = ap (pendingValid next) nothing;
+    }
+  where
+    next : Memory
+    next = withSlot (withCom memory «com») s slot
+
+-- the same memory with other valid work pending is valid
+pub pending-valid : (memory : Memory) (pending : Pending) → ValidParts memory → pendingValid (withPending memory pending) pending ≡ true → ValidParts (withPending memory pending)
+unfolding touchesAgree touched
+pending-valid memory pending parts valid =
+    record {
+      some-blocks = parts .some-blocks;
+      few-blocks = parts .few-blocks;
+      sam-below = parts .sam-below;
+      com-below = parts .com-below;
+      slots-valid = parts .slots-valid;
+      touches-agree =
+          allBelow-all (memory .blocks) _
+          (λ b h.
+          eq-eqb (touches (withPending memory pending) b (memory .slots)) (one (differs memory b))
+          (touches-same memory (withPending memory pending) b (memory .slots) (memory .slots) refl (λ t. refl)
+          ∙ touches-at memory b (parts .touches-agree) h));
+      pending-valid = valid;
+    }
