@@ -1,0 +1,128 @@
+-- Store: its causes in turn, and what is left after the next store.
+use Prim.Native.Nat.{ℕ, zero, suc, _+_, _-_, _≤_, _<_}
+use native.Mathlib.Omega.{arith}
+use mathlib.Core.Path.{_≡_, refl, sym, ap, _∙_}
+use mathlib.Core.Bool.{Bool, true, false, not, cond}
+use mathlib.Core.Option.{Option, none, some}
+use mathlib.Core.List.{List}
+use lib.ListN.{length}
+use lib.Dec.{eqb}
+use borrow.Author.Tests.{eq-eqb, ne-eqb}
+use Rattle.model.specs.declared.error.Error.{Error}
+use Rattle.model.specs.declared.error.Error.the-variants.{MemoryInvalid, DiskLength, DiskMismatch, NothingPending}
+use Rattle.model.specs.declared.answer.StoresAnswer.{StoresAnswer}
+use Rattle.model.specs.declared.memory.Memory.{Memory}
+use Rattle.model.specs.declared.memory.Pending.{Pending}
+use Rattle.model.specs.declared.memory.Pending.the-variants.{Nothing, Commit, Recovery}
+use Rattle.model.specs.Errors.{first, firstOr, unlessRefused}
+use Rattle.model.specs.Answers.{due}
+use Rattle.model.specs.Memory.{withPending}
+use Rattle.model.specs.Commit.{committed}
+use Rattle.model.specs.Valid.{valid}
+use Rattle.model.specs.Disk.{diskMatches}
+use Rattle.model.specs.Causes.{memoryInvalid, diskLengthWrong, diskMismatched, isNothing, nothingPending}
+use Rattle.model.specs.Calls.Storing.{storeError, stillDue, advanced, nextStored, storeAnswer, storeMemory, storeDisk}
+use Rattle.model.proofs.Laws.DiskParts.{first-none}
+use borrow.Author.Tests.{not-false, eqb-true}
+
+-- the stores still due and the memory, by the pending work
+module _ (memory : Memory) (pending : Pending) where
+  pub nothing-left : pending ≡ Nothing → (StoresAnswer.Due 0 ≡ StoresAnswer.Due (stillDue pending)) × (memory ≡ advanced memory pending)
+  unfolding stillDue advanced
+  nothing-left e = (ap (λ (p : Pending). StoresAnswer.Due (stillDue p)) (sym e), ap (advanced memory) (sym e))
+
+  pub commit-last : (s k n : ℕ) → pending ≡ Commit s k n → k + 1 ≡ n
+      → (StoresAnswer.Due 0 ≡ StoresAnswer.Due (stillDue pending)) × (committed memory s ≡ advanced memory pending)
+  unfolding stillDue advanced
+  commit-last s k n e q =
+      let z : 0 ≡ n - (k + 1) = omega arith in (
+        ap StoresAnswer.Due z ∙ ap (λ (p : Pending). StoresAnswer.Due (stillDue p)) (sym e),
+        ap (λ (t : Bool). cond t (committed memory s) (withPending memory (Commit s (k + 1) n))) (sym (eq-eqb (k + 1) n q)) ∙ ap (advanced memory) (sym e),
+      )
+
+  pub commit-more : (s k n : ℕ) → pending ≡ Commit s k n → (k + 1 ≡ n → ⊥)
+      → (StoresAnswer.Due (n - (k + 1)) ≡ StoresAnswer.Due (stillDue pending)) × (withPending memory (Commit s (k + 1) n) ≡ advanced memory pending)
+  unfolding stillDue advanced
+  commit-more s k n e q = (
+    ap (λ (p : Pending). StoresAnswer.Due (stillDue p)) (sym e),
+    ap (λ (t : Bool). cond t (committed memory s) (withPending memory (Commit s (k + 1) n))) (sym (ne-eqb (k + 1) n q)) ∙ ap (advanced memory) (sym e),
+  )
+
+  pub recovery-last : (k n : ℕ) → pending ≡ Recovery k n → k + 1 ≡ n
+      → (StoresAnswer.Due 0 ≡ StoresAnswer.Due (stillDue pending)) × (withPending memory Nothing ≡ advanced memory pending)
+  unfolding stillDue advanced
+  recovery-last k n e q =
+      let z : 0 ≡ n - (k + 1) = omega arith in (
+        ap StoresAnswer.Due z ∙ ap (λ (p : Pending). StoresAnswer.Due (stillDue p)) (sym e),
+        ap (λ (t : Bool). cond t (withPending memory Nothing) (withPending memory (Recovery (k + 1) n))) (sym (eq-eqb (k + 1) n q)) ∙ ap (advanced memory) (sym e),
+      )
+
+  pub recovery-more : (k n : ℕ) → pending ≡ Recovery k n → (k + 1 ≡ n → ⊥)
+      → (StoresAnswer.Due (n - (k + 1)) ≡ StoresAnswer.Due (stillDue pending)) × (withPending memory (Recovery (k + 1) n) ≡ advanced memory pending)
+  unfolding stillDue advanced
+  recovery-more k n e q = (
+    ap (λ (p : Pending). StoresAnswer.Due (stillDue p)) (sym e),
+    ap (λ (t : Bool). cond t (withPending memory Nothing) (withPending memory (Recovery (k + 1) n))) (sym (ne-eqb (k + 1) n q)) ∙ ap (advanced memory) (sym e),
+  )
+
+-- the causes in turn
+module _ (memory : Memory) (disk : List ℕ) where
+  pub invalid : valid memory ≡ false → storeError memory disk ≡ some MemoryInvalid
+  unfolding storeError first firstOr memoryInvalid
+  invalid e = rw e
+
+  pub wrong-length : valid memory ≡ true → (length disk ≡ 386 → ⊥) → storeError memory disk ≡ some DiskLength
+  unfolding storeError first firstOr memoryInvalid diskLengthWrong
+  wrong-length e n = rw (e, ne-eqb (length disk) 386 n)
+
+  pub mismatched : valid memory ≡ true → length disk ≡ 386 → diskMatches memory disk (memory .pending) ≡ false → storeError memory disk ≡ some DiskMismatch
+  unfolding storeError first firstOr memoryInvalid diskLengthWrong diskMismatched
+  mismatched e l f = rw (e, eq-eqb (length disk) 386 l, f)
+
+  pub idle : valid memory ≡ true → length disk ≡ 386 → diskMatches memory disk (memory .pending) ≡ true → isNothing (memory .pending) ≡ true → storeError memory disk ≡ some NothingPending
+  unfolding storeError first firstOr memoryInvalid diskLengthWrong diskMismatched nothingPending
+  idle e l f g = rw (e, eq-eqb (length disk) 386 l, f, g)
+
+  pub none-holds : valid memory ≡ true → length disk ≡ 386 → diskMatches memory disk (memory .pending) ≡ true → isNothing (memory .pending) ≡ false → storeError memory disk ≡ none
+  unfolding storeError first firstOr memoryInvalid diskLengthWrong diskMismatched nothingPending
+  none-holds e l f g = rw (e, eq-eqb (length disk) 386 l, f, g)
+
+  -- what an accepted store may rely on
+  pub record Ready : Type 0 where
+    pub is-valid : valid memory ≡ true
+    pub size : length disk ≡ 386
+    pub matching : diskMatches memory disk (memory .pending) ≡ true
+    pub something : nothingPending memory ≡ false
+
+  pub ready : storeError memory disk ≡ none → Ready
+  unfolding storeError memoryInvalid diskLengthWrong diskMismatched
+  ready e =
+      let n = first-none _ e in
+      record {
+        is-valid = not-false (valid memory) (n .0);
+        size = eqb-true (length disk) 386 (not-false (eqb (length disk) 386) (n .1 .0));
+        matching = not-false (diskMatches memory disk (memory .pending)) (n .1 .1 .0);
+        something = n .1 .1 .1 .0;
+      }
+
+  pub refused : (error : Error) → storeError memory disk ≡ some error
+      → (StoresAnswer.Refused error ≡ storeAnswer memory disk) × ((memory ≡ storeMemory memory disk) × (disk ≡ storeDisk memory disk))
+  unfolding storeAnswer storeMemory storeDisk due unlessRefused
+  refused error q = (
+    ap (λ (e : Option Error). due e (stillDue (memory .pending))) (sym q),
+    (
+      ap (λ (e : Option Error). unlessRefused e (advanced memory (memory .pending)) memory) (sym q),
+      ap (λ (e : Option Error). unlessRefused e (nextStored memory disk) disk) (sym q),
+    ),
+  )
+
+  pub accepted : storeError memory disk ≡ none
+      → (StoresAnswer.Due (stillDue (memory .pending)) ≡ storeAnswer memory disk) × ((advanced memory (memory .pending) ≡ storeMemory memory disk) × (nextStored memory disk ≡ storeDisk memory disk))
+  unfolding storeAnswer storeMemory storeDisk due unlessRefused
+  accepted q = (
+    ap (λ (e : Option Error). due e (stillDue (memory .pending))) (sym q),
+    (
+      ap (λ (e : Option Error). unlessRefused e (advanced memory (memory .pending)) memory) (sym q),
+      ap (λ (e : Option Error). unlessRefused e (nextStored memory disk) disk) (sym q),
+    ),
+  )

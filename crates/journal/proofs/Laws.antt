@@ -1,0 +1,17 @@
+-- What the loops over a disk's words check and write, and the model's definitions.
+pub mod Memory
+pub mod Tests
+pub mod Log
+pub mod Sam
+pub mod Replay
+pub mod Rewritten
+pub mod MendedWords
+pub mod LogWords
+pub mod Matching
+pub mod WordByWord
+pub mod DiskMatches
+pub mod Recovery
+pub mod ChangedWord
+pub mod NextStore
+pub mod NextOfCommit
+pub mod NextOfMemory

@@ -1,0 +1,3 @@
+-- What the code on a disk's words checks and finds, word by word.
+pub mod Matching
+pub mod Next

@@ -1,0 +1,56 @@
+-- What document 01's cause 6 compares, part by part and word by word.
+use Prim.Native.Nat.{ℕ, suc, _+_, _-_, _*_}
+use mathlib.Core.Bool.{Bool, true, cond, _&&_}
+use mathlib.Core.List.{List, [], _∷_}
+use lib.ListN.{getD}
+use lib.Dec.{leb, ltb, eqb}
+use Rattle.model.specs.Sizes.{bitmapAt, logAt}
+use Rattle.model.specs.Disk.{diskBlocks, logLength, logEntries, logValid, entriesAgree}
+
+-- whether words 0 and 1 are this block count and this log length
+abbrev pub headIs : List ℕ → ℕ → ℕ → Bool
+headIs disk blocks entries = eqb (diskBlocks disk) blocks && eqb (logLength disk) entries
+
+-- "in recovery all p entries must pass cause 5 and agree with SAM": whether a log of so many entries does
+unfoldable pub logAgrees : List ℕ → List ℕ → ℕ → ℕ → Bool
+logAgrees disk sam blocks entries = headIs disk blocks entries && logValid disk && entriesAgree sam (logEntries disk)
+
+-- ---- a commit, word by word
+
+-- 1 where two words differ, and 0 where they are the same
+abbrev pub differs : ℕ → ℕ → ℕ
+differs old new = cond (eqb old new) 0 1
+
+-- whether the words of log entry i are as so many stores done leave them: the first 2i + 1 stores write its number, one more
+-- its contents
+unfoldable pub entryWritten : List ℕ → ℕ → ℕ → ℕ → ℕ → Bool
+entryWritten disk done i number contents =
+    cond (leb done (2 * i)) true
+    (eqb (getD disk (logAt + 2 * i) 0) number
+    && cond (leb done (2 * i + 1)) true (eqb (getD disk (logAt + 2 * i + 1) 0) contents))
+
+-- what word of the bitmap stands on the disk: the new one where it is among the changed words written
+abbrev pub mendedWord : ℕ → ℕ → ℕ → ℕ → ℕ
+mendedWord mended i old new = cond (ltb i mended) new old
+
+-- whether bitmap word k is as the stores done leave it, i changed words being before it; if it changes, its log entry too
+unfoldable pub wordMatches : List ℕ → ℕ → ℕ → ℕ → ℕ → ℕ → ℕ → Bool
+wordMatches disk done mended k i old new =
+    cond (eqb old new)
+    (eqb (getD disk (bitmapAt + k) 0) old)
+    (eqb (getD disk (bitmapAt + k) 0) (mendedWord mended i old new) && entryWritten disk done i k new)
+
+-- and all words from number k on
+unfoldable pub wordsMatch : List ℕ → ℕ → ℕ → ℕ → ℕ → List ℕ → List ℕ → Bool
+wordsMatch disk done mended k i [] news = true
+wordsMatch disk done mended k i (old ∷ olds) [] = true
+wordsMatch disk done mended k i (old ∷ olds) (new ∷ news) =
+    wordMatches disk done mended k i old new && wordsMatch disk done mended (suc k) (i + differs old new) olds news
+
+-- the log length on the disk: 0 until the commit point, and then the number of changed words
+abbrev pub lengthAfter : ℕ → ℕ → ℕ
+lengthAfter changed done = cond (leb done (2 * changed)) 0 changed
+
+-- how many of the changed words are written to the bitmap: the stores after the commit point
+abbrev pub mendedAfter : ℕ → ℕ → ℕ
+mendedAfter changed done = done - (2 * changed + 1)

@@ -1,0 +1,74 @@
+// Whether a disk is as a memory in recovery and its stores done leave it.
+ghost use mathlib.Core.Path.{_≡_};
+ghost use mathlib.Core.Bool.{true};
+ghost use Prim.Native.Nat.{_≤_};
+ghost use lib.ListN.{length};
+ghost use Rattle.bitmap.specs.Sizes.{maxBlocks};
+ghost use Rattle.bitmap.specs.Bits.{IsBitmap};
+ghost use Rattle.model.specs.Sizes.{diskWords};
+ghost use Rattle.model.specs.Valid.{valid};
+ghost use Rattle.model.specs.Disk.{diskBlocks, logEntries, logValid, entriesAgree, diskMatches};
+ghost use Rattle.journal.specs.Matching.{logAgrees};
+use crate::head::head_matches;
+use crate::layout::LENGTH_AT;
+use crate::log::contents;
+use crate::log::log_valid;
+use crate::log::number;
+use crate::replay::rewrite;
+use crate::sam::bitmap;
+use bitops::compare::no_bits_from;
+use bitops::compare::same;
+use model::memory::Memory;
+use model::memory::Pending;
+
+// Whether the entries of the log agree with a bitmap.
+fn entries_agree(disk: &[u32], words: &[u32; 128]) -> bool
+    requires { ⌜ length (now disk) ≡ diskWords ⌝ }
+    requires { ⌜ diskBlocks (now disk) ≤ maxBlocks ⌝ }
+    requires { ⌜ logValid (now disk) ≡ true ⌝ }
+    requires { ⌜ IsBitmap (now words) ⌝ }
+    ensures { λ r. ⌜ r ≡ entriesAgree (now (words .entry)) (logEntries (now (disk .entry))) ⌝ }
+{
+    let count = disk[LENGTH_AT] as usize;
+    for i in 0..count {
+        let place = number(disk, i) as usize;
+        if words[place] != contents(disk, i) {
+            return false;
+        }
+    }
+    true
+}
+
+// Whether the log has so many entries, is valid and agrees with SAM.
+fn log_agrees(disk: &[u32], sam: &[u32; 128], blocks: u32, entries: u32) -> bool
+    requires { ⌜ length (now disk) ≡ diskWords ⌝ }
+    requires { ⌜ IsBitmap (now sam) ⌝ }
+    requires { ⌜ blocks ≤ maxBlocks ⌝ }
+    ensures { λ r. ⌜ r ≡ logAgrees (now (disk .entry)) (now (sam .entry)) blocks entries ⌝ }
+{
+    if !head_matches(disk, blocks, entries) {
+        return false;
+    }
+    if !log_valid(disk) {
+        return false;
+    }
+    entries_agree(disk, sam)
+}
+
+// While a recovery is stored: the log agrees with SAM, and with the words still due written, so does the bitmap.
+pub fn recovery_matches(memory: Memory, disk: &[u32], done: u32, due: u32) -> bool
+    requires { ⌜ length (now disk) ≡ diskWords ⌝ }
+    requires { ⌜ valid memory ≡ true ⌝ }
+    requires { ⌜ memory .pending ≡ Pending.Recovery done due ⌝ }
+    ensures { λ r. ⌜ r ≡ diskMatches memory (now (disk .entry)) (Pending.Recovery done due) ⌝ }
+{
+    if !log_agrees(disk, &memory.sam.words, memory.blocks, due - 1) {
+        return false;
+    }
+    let mut words = bitmap(disk);
+    if !no_bits_from(&words, memory.blocks) {
+        return false;
+    }
+    rewrite(&mut words, disk, done as usize);
+    same(&words, &memory.sam.words)
+}

@@ -1,0 +1,94 @@
+// What a commit's stores have written so far, word by word: the bitmap's words and the log's.
+ghost use mathlib.Core.Path.{_≡_};
+ghost use Prim.Native.Nat.{_<_};
+ghost use lib.ListN.{length};
+ghost use Rattle.bitmap.specs.Sizes.{bitmapWords};
+ghost use Rattle.bitmap.specs.Bits.{IsBitmap};
+ghost use Rattle.model.specs.Sizes.{diskWords};
+ghost use Rattle.journal.specs.Matching.{differs, mendedWord, entryWritten, wordMatches, wordsMatch};
+use crate::layout::BITMAP_AT;
+use crate::log::contents;
+use crate::log::number;
+use bitmap::Bitmap;
+
+// 1 where two words differ, and 0 where they are the same.
+pub fn differs(old: u32, new: u32) -> usize
+    ensures { λ r. ⌜ r ≡ differs old new ⌝ }
+{
+    if old == new { 0 } else { 1 }
+}
+
+// The word that the disk's bitmap has: the new one where it is among the changed words written.
+fn mended_word(mended: usize, i: usize, old: u32, new: u32) -> u32
+    ensures { λ r. ⌜ r ≡ mendedWord mended i old new ⌝ }
+{
+    if i < mended { new } else { old }
+}
+
+// Whether the words of log entry i are as so many stores done leave them.
+fn entry_written(disk: &[u32], done: usize, i: usize, place: usize, word: u32) -> bool
+    requires { ⌜ length (now disk) ≡ diskWords ⌝ }
+    requires { ⌜ i < bitmapWords ⌝ }
+    ensures { λ r. ⌜ r ≡ entryWritten (now (disk .entry)) done i place word ⌝ }
+{
+    if done <= 2 * i {
+        return true;
+    }
+    if number(disk, i) as usize != place {
+        return false;
+    }
+    if done <= 2 * i + 1 {
+        return true;
+    }
+    contents(disk, i) == word
+}
+
+// Whether bitmap word k is as the stores done leave it, i changed words being before it; if it changes, its log entry too.
+fn word_matches(
+    disk: &[u32],
+    done: usize,
+    mended: usize,
+    k: usize,
+    i: usize,
+    old: u32,
+    new: u32,
+) -> bool
+    requires { ⌜ length (now disk) ≡ diskWords ⌝ }
+    requires { ⌜ k < bitmapWords ⌝ }
+    requires { ⌜ i < bitmapWords ⌝ }
+    ensures { λ r. ⌜ r ≡ wordMatches (now (disk .entry)) done mended k i old new ⌝ }
+{
+    let word = disk[BITMAP_AT + k];
+    if old == new {
+        return word == old;
+    }
+    if word != mended_word(mended, i, old, new) {
+        return false;
+    }
+    entry_written(disk, done, i, k, new)
+}
+
+// Whether all bitmap words, and the log entries of those that change, are as the stores done leave them.
+pub fn words_match(
+    disk: &[u32],
+    done: usize,
+    mended: usize,
+    old: &[u32; 128],
+    new: &[u32; 128],
+) -> bool
+    requires { ⌜ length (now disk) ≡ diskWords ⌝ }
+    requires { ⌜ IsBitmap (now old) ⌝ }
+    requires { ⌜ IsBitmap (now new) ⌝ }
+    ensures { λ r. ⌜ r ≡ wordsMatch (now (disk .entry)) done mended 0 0 (now (old .entry)) (now (new .entry)) ⌝ }
+{
+    let mut i = 0;
+    for k in 0..Bitmap::WORDS {
+        let was = old[k];
+        let will = new[k];
+        if !word_matches(disk, done, mended, k, i, was, will) {
+            return false;
+        }
+        i += differs(was, will);
+    }
+    true
+}
