@@ -1,4 +1,5 @@
 -- What the words that this crate's functions leave say of blocks.
+pub mod Array
 pub mod Bitmap
 pub mod Overwrite
 pub mod Block
@@ -8,3 +9,4 @@ pub mod Count
 pub mod Available
 pub mod Scan
 pub mod Take
+pub mod Memory

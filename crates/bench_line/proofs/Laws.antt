@@ -1,0 +1,9 @@
+-- The laws of this crate.
+pub mod Prefix
+pub mod Digits
+pub mod Fields
+pub mod Ops
+pub mod Line
+pub mod Put
+pub mod Decimal
+pub mod Answer

@@ -1,0 +1,185 @@
+-- The first letter says which ops are left, and each of them is tried.
+use Prim.Native.Nat.{ℕ}
+use mathlib.Core.Path.{_≡_, refl, sym, ap, _∙_}
+use mathlib.Core.List.{List}
+use lib.ListN.{drop, getD}
+use borrow.Author.Needs.{needs}
+use Rattle.model.specs.declared.line.Op.{Op}
+use Rattle.model.specs.Line.{ops, parseOp}
+use Rattle.bench_line.specs.Ops.{opElse}
+use Rattle.bench_line.proofs.Laws.Ops.{opsWith, at-end, at-letter, no-ops}
+use Rattle.bench_line.proofs.fields.parse_op.Statement.{statement}
+use Rattle.bench_line.proofs.fields.parse_op.Tie as tie
+
+returns : tie.Need-returns
+returns c = sym (at-end (c .before .before .args .line .now) (c .if1 .taken))
+
+shared-slice-read-first : tie.Need-shared-slice-read-first
+shared-slice-read-first c = search needs
+
+slice-aggregate-op-else : tie.Need-slice-aggregate-op-else
+slice-aggregate-op-else c = search needs
+
+op-else-requires : tie.Need-op-else-requires
+op-else-requires c κs = search needs
+
+slice-aggregate-op-else-2 : tie.Need-slice-aggregate-op-else-2
+slice-aggregate-op-else-2 c = search needs
+
+op-else-requires-2 : tie.Need-op-else-requires-2
+op-else-requires-2 c κs = search needs
+
+slice-aggregate-op-else-3 : tie.Need-slice-aggregate-op-else-3
+slice-aggregate-op-else-3 c = search needs
+
+op-else-requires-3 : tie.Need-op-else-requires-3
+op-else-requires-3 c κs = search needs
+
+slice-aggregate-op-else-4 : tie.Need-slice-aggregate-op-else-4
+slice-aggregate-op-else-4 c = search needs
+
+op-else-requires-4 : tie.Need-op-else-requires-4
+op-else-requires-4 c κs = search needs
+
+slice-aggregate-op-else-5 : tie.Need-slice-aggregate-op-else-5
+slice-aggregate-op-else-5 c = search needs
+
+op-else-requires-5 : tie.Need-op-else-requires-5
+op-else-requires-5 c κs = search needs
+
+slice-aggregate-op-else-6 : tie.Need-slice-aggregate-op-else-6
+slice-aggregate-op-else-6 c = search needs
+
+op-else-requires-6 : tie.Need-op-else-requires-6
+op-else-requires-6 c κs = search needs
+
+slice-aggregate-op-else-7 : tie.Need-slice-aggregate-op-else-7
+slice-aggregate-op-else-7 c = search needs
+
+op-else-requires-7 : tie.Need-op-else-requires-7
+op-else-requires-7 c κs = search needs
+
+slice-aggregate-op-else-8 : tie.Need-slice-aggregate-op-else-8
+slice-aggregate-op-else-8 c = search needs
+
+op-else-requires-8 : tie.Need-op-else-requires-8
+op-else-requires-8 c κs = search needs
+
+slice-aggregate-op-else-9 : tie.Need-slice-aggregate-op-else-9
+slice-aggregate-op-else-9 c = search needs
+
+op-else-requires-9 : tie.Need-op-else-requires-9
+op-else-requires-9 c κs = search needs
+
+slice-aggregate-op-else-10 : tie.Need-slice-aggregate-op-else-10
+slice-aggregate-op-else-10 c = search needs
+
+op-else-requires-10 : tie.Need-op-else-requires-10
+op-else-requires-10 c κs = search needs
+
+slice-aggregate-op-else-11 : tie.Need-slice-aggregate-op-else-11
+slice-aggregate-op-else-11 c = search needs
+
+op-else-requires-11 : tie.Need-op-else-requires-11
+op-else-requires-11 c κs = search needs
+
+-- past the first test: what stands after "op=", and the ops that are left for its first letter
+abbrev bytes : tie.After-shared-slice-known2 → List ℕ
+bytes c = drop 3 (c .before .before .before .args .line .now)
+
+from-letter : (c : tie.After-shared-slice-known2) (b : ℕ) → getD (c .before .before .before .args .line .now) 3 0 ≡ b → parseOp ops (bytes c) ≡ parseOp (opsWith b ops) (bytes c)
+from-letter c b e = at-letter (c .before .before .before .args .line .now) b (c .before .if1 .left) e
+
+returns-2 : tie.Need-returns-2
+unfolding ops parseOp opElse
+returns-2 c =
+    let m = c .before .before in
+    c .op-else .ensures ∙ sym (from-letter (m .before) 97 (m .match .keys1))
+
+returns-3 : tie.Need-returns-3
+unfolding ops parseOp opElse
+returns-3 c =
+    let cut = c .before .before in
+    let m = cut .before .before in
+    c .op-else3 .ensures ∙ ap (opElse Op.Commit (bytes (m .before))) (cut .op-else2 .ensures) ∙ sym (from-letter (m .before) 99 (m .match .keys2))
+
+returns-4 : tie.Need-returns-4
+unfolding ops parseOp opElse
+returns-4 c =
+    let free = c .before .before in
+    let m = free .before .before in
+    c .op-else5 .ensures ∙ ap (opElse Op.Format (bytes (m .before))) (free .op-else4 .ensures) ∙ sym (from-letter (m .before) 102 (m .match .keys3))
+
+returns-5 : tie.Need-returns-5
+unfolding ops parseOp opElse
+returns-5 c =
+    let m = c .before .before in
+    c .op-else6 .ensures ∙ sym (from-letter (m .before) 111 (m .match .keys4))
+
+returns-6 : tie.Need-returns-6
+unfolding ops parseOp opElse
+returns-6 c =
+    let m = c .before .before in
+    c .op-else7 .ensures ∙ sym (from-letter (m .before) 112 (m .match .keys5))
+
+returns-7 : tie.Need-returns-7
+unfolding ops parseOp opElse
+returns-7 c =
+    let m = c .before .before in
+    c .op-else8 .ensures ∙ sym (from-letter (m .before) 114 (m .match .keys6))
+
+returns-8 : tie.Need-returns-8
+unfolding ops parseOp opElse
+returns-8 c =
+    let store = c .before .before in
+    let stat = store .before .before in
+    let m = stat .before .before in
+    c .op-else11 .ensures
+    ∙ ap (opElse Op.Start (bytes (m .before))) (store .op-else10 .ensures ∙ ap (opElse Op.Store (bytes (m .before))) (stat .op-else9 .ensures))
+    ∙ sym (from-letter (m .before) 115 (m .match .keys7))
+
+returns-9 : tie.Need-returns-9
+unfolding parseOp
+returns-9 c =
+    let k = c .before in
+    let first = getD (k .before .before .before .args .line .now) 3 0 in
+    let r = c .match .rest in
+    let none = no-ops first (r .0 .0 .0 .0 .0 .0 .1) (r .0 .0 .0 .0 .0 .1) (r .0 .0 .0 .0 .1) (r .0 .0 .0 .1) (r .0 .0 .1) (r .0 .1) (r .1) in
+    sym (from-letter k first refl ∙ ap (λ (list : List Op). parseOp list (bytes k)) none)
+
+pub parse-op-spec : {M : Type 1} → statement M
+parse-op-spec =
+    tie.close
+    (tie.spec
+    returns
+    shared-slice-read-first
+    slice-aggregate-op-else
+    op-else-requires
+    slice-aggregate-op-else-2
+    op-else-requires-2
+    slice-aggregate-op-else-3
+    op-else-requires-3
+    slice-aggregate-op-else-4
+    op-else-requires-4
+    slice-aggregate-op-else-5
+    op-else-requires-5
+    slice-aggregate-op-else-6
+    op-else-requires-6
+    slice-aggregate-op-else-7
+    op-else-requires-7
+    slice-aggregate-op-else-8
+    op-else-requires-8
+    slice-aggregate-op-else-9
+    op-else-requires-9
+    slice-aggregate-op-else-10
+    op-else-requires-10
+    slice-aggregate-op-else-11
+    op-else-requires-11
+    returns-2
+    returns-3
+    returns-4
+    returns-5
+    returns-6
+    returns-7
+    returns-8
+    returns-9)

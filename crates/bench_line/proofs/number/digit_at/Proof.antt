@@ -1,0 +1,29 @@
+-- Each test gives one part of `digitAt`.
+use mathlib.Core.Path.{sym}
+use Rattle.bench_line.proofs.Laws.Digits.{past-end, below-digits, up-to-digits}
+use borrow.Author.Needs.{needs}
+use Rattle.bench_line.proofs.number.digit_at.Statement.{statement}
+use Rattle.bench_line.proofs.number.digit_at.Tie as tie
+
+-- src/number.rt:21:9
+returns : tie.Need-returns
+returns c = sym (past-end (c .before .args .line .now) (c .before .args .at) (c .if1 .taken))
+
+-- src/number.rt:23:16
+shared-slice-read-byte : tie.Need-shared-slice-read-byte
+shared-slice-read-byte c = search needs
+
+-- src/number.rt:25:9
+returns-2 : tie.Need-returns-2
+returns-2 c =
+    let a = c .before .before .before .args in
+    sym (below-digits (a .line .now) (a .at) (c .if2 .taken))
+
+-- src/number.rt:17:1
+returns-3 : tie.Need-returns-3
+returns-3 c =
+    let a = c .before .before .before .args in
+    sym (up-to-digits (a .line .now) (a .at) (c .before .before .if1 .left) (c .if2 .left))
+
+pub digit-at-spec : {M : Type 1} → statement M
+digit-at-spec = tie.close (tie.spec returns shared-slice-read-byte returns-2 returns-3)

@@ -1,0 +1,124 @@
+-- The invariant: the digits so far and their value, of at most five digits. The measure is what is left of the line.
+use Prim.Native.Nat.{ℕ, _-_, _≤_, _<_}
+use mathlib.Core.Path.{_≡_, sym, _∙_}
+use mathlib.Core.Bool.{true, false}
+use mathlib.Core.List.{List}
+use native.Mathlib.Omega.{arith}
+use lib.ListN.{length, getD}
+use borrow.Author.Needs.{needs}
+use Rattle.bench_line.specs.Number.{digitAt}
+use Rattle.bench_line.proofs.Laws.Digits.{SoFar, none-yet, digit-in, digit-low, digit-high, four-digits, one-more, six-digits, no-digits, number-read}
+use Rattle.bench_line.proofs.number.number_at.Statement.{statement}
+use Rattle.bench_line.proofs.number.number_at.Tie as tie
+
+abbrev Inv-loop : tie.InvT-loop
+Inv-loop line at value₀ next₀ value next = SoFar line at value next
+
+abbrev μ-loop : tie.MeasureT-loop
+μ-loop line at value₀ next₀ value next = length line - next
+
+loop-holds : tie.Need-loop-holds Inv-loop μ-loop
+loop-holds c = none-yet (c .before .args .line .now) (c .before .args .at) (c .before .pre)
+
+digit-at-requires : tie.Need-digit-at-requires Inv-loop μ-loop
+digit-at-requires c κs = search needs
+
+sub-if2 : tie.Need-sub-if2 Inv-loop μ-loop
+sub-if2 c = omega arith
+
+-- in a turn: the line, the place, and that a digit stands there
+abbrev line-of : tie.Then1 Inv-loop μ-loop → List ℕ
+line-of c = c .before .before .before .before .args .line .now
+
+abbrev at-of : tie.Then1 Inv-loop μ-loop → ℕ
+at-of c = c .before .before .before .before .args .at
+
+abbrev value-of : tie.Then1 Inv-loop μ-loop → ℕ
+value-of c = c .before .before .loop .value
+
+abbrev next-of : tie.Then1 Inv-loop μ-loop → ℕ
+next-of c = c .before .before .loop .next
+
+digit : (c : tie.Then1 Inv-loop μ-loop) → digitAt (line-of c) (next-of c) ≡ true
+digit c = sym (c .before .digit-at .ensures) ∙ c .if1 .taken
+
+inside : (c : tie.Then1 Inv-loop μ-loop) → next-of c < length (line-of c)
+inside c = digit-in (line-of c) (next-of c) (digit c)
+
+low : (c : tie.Then1 Inv-loop μ-loop) → 48 ≤ getD (line-of c) (next-of c) 0
+low c = digit-low (line-of c) (next-of c) (digit c)
+
+high : (c : tie.Then1 Inv-loop μ-loop) → getD (line-of c) (next-of c) 0 ≤ 57
+high c = digit-high (line-of c) (next-of c) (digit c)
+
+small : (c : tie.Else2 Inv-loop μ-loop) → value-of (c .before) < 10000
+small c =
+    let t = c .before in
+    four-digits (line-of t) (at-of t) (value-of t) (next-of t) (t .before .before .loop .inv) (c .if2 .left)
+
+returns : tie.Need-returns Inv-loop μ-loop
+returns c =
+    let t = c .before in
+    six-digits (line-of t) (at-of t) (value-of t) (next-of t) (t .before .before .loop .inv) (digit t) (c .if2 .taken)
+
+mul-value : tie.Need-mul-value Inv-loop μ-loop
+mul-value c = omega (arith, small c)
+
+shared-slice-read-value : tie.Need-shared-slice-read-value Inv-loop μ-loop
+shared-slice-read-value c = inside (c .before .before)
+
+sub-value : tie.Need-sub-value Inv-loop μ-loop
+sub-value c = low (c .before .before)
+
+cast-value : tie.Need-cast-value Inv-loop μ-loop
+cast-value c = omega (arith, high (c .before .before))
+
+add-value : tie.Need-add-value Inv-loop μ-loop
+add-value c = omega (arith, small (c .before), high (c .before .before))
+
+add-next : tie.Need-add-next Inv-loop μ-loop
+add-next c = omega (arith, inside (c .before .before))
+
+loop-less : tie.Need-loop-less Inv-loop μ-loop
+loop-less c = omega (arith, inside (c .before .before))
+
+loop-again : tie.Need-loop-again Inv-loop μ-loop
+loop-again c =
+    let t = c .before .before in
+    one-more (line-of t) (at-of t) (value-of t) (next-of t) (t .before .before .loop .inv) (digit t) (c .before .if2 .left)
+
+end : (c : tie.Else1 Inv-loop μ-loop) → digitAt (c .before .before .before .before .args .line .now) (c .before .before .loop .next) ≡ false
+end c = sym (c .before .digit-at .ensures) ∙ c .if1 .left
+
+returns-2 : tie.Need-returns-2 Inv-loop μ-loop
+returns-2 c =
+    let l = c .before .before .before in
+    let a = l .before .before .args in
+    no-digits (a .line .now) (a .at) (l .loop .value) (l .loop .next) (l .loop .inv) (end (c .before)) (c .if3 .taken)
+
+returns-3 : tie.Need-returns-3 Inv-loop μ-loop
+returns-3 c =
+    let l = c .before .before .before in
+    let a = l .before .before .args in
+    number-read (a .line .now) (a .at) (l .loop .value) (l .loop .next) (l .loop .inv) (end (c .before)) (c .if3 .left)
+
+pub number-at-spec : {M : Type 1} → statement M
+number-at-spec =
+    tie.close
+    (tie.spec
+    Inv-loop
+    μ-loop
+    loop-holds
+    digit-at-requires
+    sub-if2
+    returns
+    mul-value
+    shared-slice-read-value
+    sub-value
+    cast-value
+    add-value
+    add-next
+    loop-less
+    loop-again
+    returns-2
+    returns-3)

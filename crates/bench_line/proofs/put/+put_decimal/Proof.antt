@@ -1,0 +1,151 @@
+-- The measure is the number: its tenth is printed first, and then its last digit.
+use Prim.Native.Nat.{ℕ, _<_}
+use mathlib.Core.Path.{_≡_}
+use native.Mathlib.Omega.{arith}
+use lib.ListN.{length, length-set}
+use Rattle.bench_line.proofs.Laws.Decimal.{digit-length, digits-length, put-digit, put-digits}
+use borrow.Fn.Kinds.{In}
+use borrow.Fn.PlainCycle.{Measures, is, falls, and}
+use Rattle.bench_line.proofs.put.put_decimal.Reads as put-decimal
+use Rattle.bench_line.proofs.put.put_decimal.Kinds as put-decimal-kinds
+use Rattle.bench_line.proofs.put.+put_decimal.Lts-put_decimal as put-decimal-lts
+use Rattle.bench_line.proofs.put.+put_decimal.{statement}
+use Rattle.bench_line.proofs.put.+put_decimal.Tie.{close}
+
+abbrev μ-put-decimal : Measures 1 put-decimal-kinds.ps ℕ
+μ-put-decimal κs a = a .1 .1 .0
+
+abbrev put-decimal-at : ℕ → In 1 put-decimal-kinds.ps
+put-decimal-at t =
+    and 1 put-decimal-kinds.ps (is 1 put-decimal-kinds.ps μ-put-decimal t) put-decimal.Pre
+
+abbrev put-decimal-below : ℕ → In 1 put-decimal-kinds.ps
+put-decimal-below t =
+    and 1 put-decimal-kinds.ps (falls 1 put-decimal-kinds.ps _<_ μ-put-decimal t) put-decimal.Pre
+
+put-decimal-cast-out : (t : ℕ) → put-decimal-lts.Need-cast-out (
+  put-decimal-below t,
+  put-decimal.Post,
+) (put-decimal-at t) put-decimal.Post
+put-decimal-cast-out t c = omega arith
+
+put-decimal-add-out : (t : ℕ) → put-decimal-lts.Need-add-out (
+  put-decimal-below t,
+  put-decimal.Post,
+) (put-decimal-at t) put-decimal.Post
+put-decimal-add-out t c = omega arith
+
+put-decimal-slice-write-out : (t : ℕ) → put-decimal-lts.Need-slice-write-out (
+  put-decimal-below t,
+  put-decimal.Post,
+) (put-decimal-at t) put-decimal.Post
+put-decimal-slice-write-out t c = omega (arith, digit-length (c .before .before .args .n) (c .if1 .taken))
+
+put-decimal-add-result : (t : ℕ) → put-decimal-lts.Need-add-result (
+  put-decimal-below t,
+  put-decimal.Post,
+) (put-decimal-at t) put-decimal.Post
+put-decimal-add-result t c = omega (arith, digit-length (c .before .before .args .n) (c .if1 .taken))
+
+put-decimal-same-length : (t : ℕ) → put-decimal-lts.Need-same-length (
+  put-decimal-below t,
+  put-decimal.Post,
+) (put-decimal-at t) put-decimal.Post
+put-decimal-same-length t c = simp length-set
+
+put-decimal-returns : (t : ℕ) → put-decimal-lts.Need-returns (
+  put-decimal-below t,
+  put-decimal.Post,
+) (put-decimal-at t) put-decimal.Post
+put-decimal-returns t c =
+    let a = c .before .before .args in
+    put-digit (a .out .now) (a .at) (a .n) (c .if1 .taken) (omega (arith, digit-length (a .n) (c .if1 .taken)))
+
+put-decimal-put-decimal-requires : (t : ℕ) → put-decimal-lts.Need-put-decimal-requires (
+  put-decimal-below t,
+  put-decimal.Post,
+) (put-decimal-at t) put-decimal.Post
+put-decimal-put-decimal-requires t c κs =
+    let s = c .before .before .before in
+    (omega arith, omega (arith, digits-length (s .args .n) (c .before .if1 .left) (s .fits .n .fits)))
+
+put-decimal-cast-out-2 : (t : ℕ) → put-decimal-lts.Need-cast-out-2 (
+  put-decimal-below t,
+  put-decimal.Post,
+) (put-decimal-at t) put-decimal.Post
+put-decimal-cast-out-2 t c = omega arith
+
+put-decimal-add-out-2 : (t : ℕ) → put-decimal-lts.Need-add-out-2 (
+  put-decimal-below t,
+  put-decimal.Post,
+) (put-decimal-at t) put-decimal.Post
+put-decimal-add-out-2 t c = omega arith
+
+-- after the call: there is room for the last digit
+length-kept : (t : ℕ) (c : put-decimal-lts.After-put-decimal (put-decimal-below t, put-decimal.Post) (put-decimal-at t) put-decimal.Post) → length (c .put-decimal .last .0) ≡ length (c .before .before .before .before .args .out .now)
+length-kept t c = c .put-decimal .kept .0
+
+room : (t : ℕ) (c : put-decimal-lts.After-put-decimal (put-decimal-below t, put-decimal.Post) (put-decimal-at t) put-decimal.Post) → c .put-decimal .result < length (c .put-decimal .last .0)
+room t c =
+    let s = c .before .before .before .before in
+    omega (arith, s .pre .1, c .put-decimal .ensures .nextIs, length-kept t c, digits-length (s .args .n) (c .before .before .if1 .left) (s .fits .n .fits))
+
+put-decimal-slice-write-out-2 : (t : ℕ) → put-decimal-lts.Need-slice-write-out-2 (
+  put-decimal-below t,
+  put-decimal.Post,
+) (put-decimal-at t) put-decimal.Post
+put-decimal-slice-write-out-2 t c = room t (c .before .before)
+
+put-decimal-add-result-2 : (t : ℕ) → put-decimal-lts.Need-add-result-2 (
+  put-decimal-below t,
+  put-decimal.Post,
+) (put-decimal-at t) put-decimal.Post
+put-decimal-add-result-2 t c =
+    let p = c .before .before in
+    omega (arith, room t p, length-kept t p, p .before .before .before .before .good .0 .0)
+
+put-decimal-same-length-2 : (t : ℕ) → put-decimal-lts.Need-same-length-2 (
+  put-decimal-below t,
+  put-decimal.Post,
+) (put-decimal-at t) put-decimal.Post
+put-decimal-same-length-2 t c = simp length-set (length-kept t (c .before .before))
+
+put-decimal-returns-2 : (t : ℕ) → put-decimal-lts.Need-returns-2 (
+  put-decimal-below t,
+  put-decimal.Post,
+) (put-decimal-at t) put-decimal.Post
+put-decimal-returns-2 t c =
+    let p = c .before .before in
+    let s = p .before .before .before .before in
+    put-digits
+    (s .args .out .now)
+    (p .put-decimal .last .0)
+    (s .args .at)
+    (p .put-decimal .result)
+    (s .args .n)
+    (p .before .before .if1 .left)
+    (s .fits .n .fits)
+    (omega (arith, s .pre .1))
+    (room t p)
+    (p .put-decimal .ensures)
+
+pub +put-decimal-spec : {M : Type 1} → statement M
++put-decimal-spec = close μ-put-decimal λ t. put-decimal-lts.spec (
+  put-decimal-below t,
+  put-decimal.Post,
+)
+    (put-decimal-at t)
+    put-decimal.Post
+    (put-decimal-cast-out t)
+    (put-decimal-add-out t)
+    (put-decimal-slice-write-out t)
+    (put-decimal-add-result t)
+    (put-decimal-same-length t)
+    (put-decimal-returns t)
+    (put-decimal-put-decimal-requires t)
+    (put-decimal-cast-out-2 t)
+    (put-decimal-add-out-2 t)
+    (put-decimal-slice-write-out-2 t)
+    (put-decimal-add-result-2 t)
+    (put-decimal-same-length-2 t)
+    (put-decimal-returns-2 t)
