@@ -1,12 +1,10 @@
 //! The bench: a memory and a disk, and what each bench line does to them.
 
-use crate::calls::{
-    allocate, commit, deallocate, format, open, precommit, rollback, start, status, store,
-    MAX_COUNT,
-};
+use crate::calls::MAX_COUNT;
 use crate::disk::DISK_WORDS;
 use crate::error::Error;
-use crate::line::{parse, Line, Operation};
+use crate::lent::Lent;
+use crate::line::{parse, Line};
 use crate::memory::Memory;
 
 /// The bench's state between two lines.
@@ -31,35 +29,8 @@ impl Bench {
 
     /// Makes the call that a line in form asks for.
     pub fn call(&mut self, line: &Line) -> Result<u32, Error> {
-        let memory = &mut self.memory;
-        let Line { operation, slot, number } = *line;
-        match operation {
-            Operation::Format => format(&mut self.disk, number).map(|()| 0),
-            Operation::Open => self.open(),
-            Operation::Start => start(memory, slot).map(|()| 0),
-            Operation::Allocate => {
-                allocate(memory, slot, number, &mut self.list).map(|()| self.list[0])
-            }
-            Operation::Deallocate => deallocate(memory, slot, number).map(|()| 0),
-            Operation::Precommit => precommit(memory, slot).map(|()| 0),
-            Operation::Commit => commit(memory, slot),
-            Operation::Rollback => rollback(memory, slot).map(|()| 0),
-            Operation::Store => store(memory, &mut self.disk),
-            Operation::Status => status(memory).map(|status| status.allocated),
-            Operation::Crash => {
-                self.memory = Memory::ZEROS;
-                Ok(0)
-            }
-        }
-    }
-
-    /// Opens the disk. The bench keeps its memory when the open is refused.
-    fn open(&mut self) -> Result<u32, Error> {
-        let opened = open(&self.disk);
-        if opened.answer.is_ok() {
-            self.memory = opened.memory;
-        }
-        opened.answer
+        let Bench { memory, disk, list } = self;
+        Lent { memory, disk, list }.call(line)
     }
 }
 

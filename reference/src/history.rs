@@ -2,8 +2,8 @@
 //! so that it reaches deep ones.
 
 mod choice;
-mod malformed;
-mod text;
+pub(crate) mod malformed;
+pub(crate) mod text;
 
 use crate::bench::Bench;
 use crate::bitmap::Bitmap;
@@ -52,8 +52,17 @@ pub struct History {
 impl History {
     /// The history of this seed and shape, unless the block count is out of range.
     pub fn new(seed: u64, shape: Shape) -> Option<History> {
+        (shape.blocks <= Bitmap::MAX_BLOCKS).then(|| History::from_start(seed, shape))
+    }
+
+    /// A history that goes on from states that others bring about.
+    pub(crate) fn to_be_resumed(seed: u64) -> History {
+        History::from_start(seed, Shape { blocks: 0, malformed: false, reformats: false })
+    }
+
+    fn from_start(seed: u64, shape: Shape) -> History {
         let mut random = Random::new(seed);
-        (shape.blocks <= Bitmap::MAX_BLOCKS).then(|| History {
+        History {
             phase: Phase::random(&mut random),
             random,
             shape,
@@ -62,7 +71,15 @@ impl History {
             disk_is_foreign: false,
             touches_left: [0; Memory::SLOTS],
             interrupt_at: 0,
-        })
+        }
+    }
+
+    /// Goes on from another state than the one the history has come to. The disk is 386 words.
+    pub(crate) fn resume(&mut self, memory: &Memory, disk: &[u32]) {
+        self.bench.memory = memory.clone();
+        self.bench.disk.copy_from_slice(disk);
+        self.formatted = true;
+        self.disk_is_foreign = false;
     }
 
     /// Takes note of what the answer means for the lines to come.

@@ -1,5 +1,7 @@
 //! The form of a bench line: `op=.. seat=.. n=..`.
 
+use std::fmt::{self, Display, Formatter};
+
 /// The longest line, byte 10 not counted.
 pub const MAX_LINE_BYTES: usize = 64;
 pub const MAX_DIGITS: usize = 5;
@@ -20,21 +22,21 @@ pub enum Operation {
     Crash,
 }
 
-const OPERATIONS: [Operation; 11] = [
-    Operation::Format,
-    Operation::Open,
-    Operation::Start,
-    Operation::Allocate,
-    Operation::Deallocate,
-    Operation::Precommit,
-    Operation::Commit,
-    Operation::Rollback,
-    Operation::Store,
-    Operation::Status,
-    Operation::Crash,
-];
-
 impl Operation {
+    pub const ALL: [Operation; 11] = [
+        Operation::Format,
+        Operation::Open,
+        Operation::Start,
+        Operation::Allocate,
+        Operation::Deallocate,
+        Operation::Precommit,
+        Operation::Commit,
+        Operation::Rollback,
+        Operation::Store,
+        Operation::Status,
+        Operation::Crash,
+    ];
+
     /// The operation's word in the bench format.
     pub fn word(self) -> &'static str {
         match self {
@@ -61,6 +63,12 @@ pub struct Line {
     pub number: u32,
 }
 
+impl Display for Line {
+    fn fmt(&self, output: &mut Formatter) -> fmt::Result {
+        write!(output, "op={} seat={} n={}", self.operation.word(), self.slot, self.number)
+    }
+}
+
 /// Reads a line without its byte 10. A line that isn't in form gives nothing.
 pub fn parse(line: &[u8]) -> Option<Line> {
     if line.len() > MAX_LINE_BYTES {
@@ -76,7 +84,7 @@ pub fn parse(line: &[u8]) -> Option<Line> {
 fn read_operation(bytes: &[u8]) -> Option<(Operation, &[u8])> {
     let end = bytes.iter().position(|byte| *byte == b' ')?;
     let (word, rest) = bytes.split_at(end);
-    let operation = OPERATIONS.iter().find(|operation| operation.word().as_bytes() == word)?;
+    let operation = Operation::ALL.iter().find(|operation| operation.word().as_bytes() == word)?;
     Some((*operation, rest))
 }
 

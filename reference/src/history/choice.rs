@@ -36,7 +36,7 @@ fn line(operation: Operation, slot: u32, number: u32) -> Line {
 }
 
 impl History {
-    pub(super) fn choose(&mut self) -> Line {
+    pub(crate) fn choose(&mut self) -> Line {
         let reformat = self.shape.reformats && self.random.one_in(REFORMAT_IN);
         if reformat || !self.formatted {
             self.choose_format()

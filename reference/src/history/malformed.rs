@@ -51,7 +51,7 @@ fn swapped_fields(line: &Line) -> Vec<u8> {
 }
 
 /// Lengthened near the longest allowed length, or well beyond it.
-fn padded(random: &mut Random, mut bytes: Vec<u8>) -> Vec<u8> {
+pub fn padded(random: &mut Random, mut bytes: Vec<u8>) -> Vec<u8> {
     let lengths = [MAX_LINE_BYTES - 1, MAX_LINE_BYTES, MAX_LINE_BYTES + 1, 100, 5000];
     let (length, filling) = (random.choose(&lengths), random.choose(b" 0\0n"));
     bytes.resize(length, filling);
@@ -59,7 +59,7 @@ fn padded(random: &mut Random, mut bytes: Vec<u8>) -> Vec<u8> {
 }
 
 /// One of the spaces missing, doubled or replaced by a tab.
-fn with_other_space(random: &mut Random, mut bytes: Vec<u8>) -> Vec<u8> {
+pub fn with_other_space(random: &mut Random, mut bytes: Vec<u8>) -> Vec<u8> {
     let is_space = |place: &usize| bytes[*place] == b' ';
     let spaces: Vec<usize> = (0..bytes.len()).filter(is_space).collect();
     let place = random.choose(&spaces);
@@ -68,19 +68,19 @@ fn with_other_space(random: &mut Random, mut bytes: Vec<u8>) -> Vec<u8> {
     bytes
 }
 
-fn without_byte(random: &mut Random, mut bytes: Vec<u8>) -> Vec<u8> {
+pub fn without_byte(random: &mut Random, mut bytes: Vec<u8>) -> Vec<u8> {
     let place = random.below(bytes.len() as u32) as usize;
     bytes.remove(place);
     bytes
 }
 
-fn with_inserted_byte(random: &mut Random, mut bytes: Vec<u8>) -> Vec<u8> {
+pub fn with_inserted_byte(random: &mut Random, mut bytes: Vec<u8>) -> Vec<u8> {
     let place = random.below(bytes.len() as u32 + 1) as usize;
     bytes.insert(place, any_byte(random));
     bytes
 }
 
-fn with_changed_byte(random: &mut Random, mut bytes: Vec<u8>) -> Vec<u8> {
+pub fn with_changed_byte(random: &mut Random, mut bytes: Vec<u8>) -> Vec<u8> {
     let place = random.below(bytes.len() as u32) as usize;
     bytes[place] = any_byte(random);
     bytes

@@ -63,17 +63,76 @@ fn the_program_prints_a_history_that_depends_on_its_arguments_alone() {
     assert_eq!(history, print(&["history", "5", "400", "33"]));
     assert_ne!(history, print(&["history", "6", "400", "33"]));
     assert_ne!(history, print(&["history", "5", "400", "33", "--malformed"]));
+    let damage = print(&["damage", "5", "400"]);
+    assert_eq!(damage.iter().filter(|byte| **byte == b'\n').count(), 400);
+    assert_eq!(damage, print(&["damage", "5", "400"]));
+    assert_ne!(damage, print(&["damage", "6", "400"]));
+    let kinds = print(&["kinds", "33", "400"]);
+    assert!(kinds.starts_with(b"op=format seat=0 n=33\n"));
+    assert_eq!(kinds.iter().filter(|byte| **byte == b'\n').count(), 400);
+}
+
+#[test]
+fn the_program_inspects() {
+    let output = run_program(&["inspect"], &format!("{INPUT}list 1\nshow\nop=stat seat=0 n=0"));
+    assert!(output.status.success());
+    let output = String::from_utf8(output.stdout).unwrap();
+    let shown = "call=13 answer=0 value=0
+call=14 answer=0 value=0
+blocks=4
+pending=2 0 0 2
+sam 0:3
+com 0:3
+slot 0 state=0
+slot 1 state=0
+slot 2 state=0
+slot 3 state=0
+slot 4 state=0
+slot 5 state=0
+slot 6 state=0
+slot 7 state=0
+disk length=386 0:4 1:1 131:3
+list length=1 0
+call=15 answer=0 value=2
+";
+    assert_eq!(output, format!("{OUTPUT}{shown}"));
+}
+
+#[test]
+fn the_program_times_a_file() {
+    let file = concat!(env!("CARGO_MANIFEST_DIR"), "/../bench/example.txt");
+    for (arguments, lines) in [
+        (vec!["time", file], 1),
+        (vec!["time", file, "3"], 1),
+        (vec!["time", file, "3", "--kinds"], 10),
+        (vec!["time", file, "--kinds"], 10),
+    ] {
+        let output = run_program(&arguments, "");
+        assert!(output.status.success(), "{arguments:?}");
+        let output = String::from_utf8(output.stdout).unwrap();
+        assert!(output.starts_with("lines=12 rounds="), "{arguments:?}");
+        assert_eq!(output.lines().count(), lines, "{arguments:?}");
+    }
+    assert!(!run_program(&["time", "/no/such/file"], "").status.success());
 }
 
 #[test]
 fn the_program_refuses_other_arguments() {
-    let cases: [&[&str]; 6] = [
+    let cases: [&[&str]; 14] = [
         &[],
         &["benches"],
         &["history", "1", "2"],
         &["history", "1", "2", "4097"],
         &["history", "1", "2", "-1"],
         &["history", "1", "2", "3", "--deformed"],
+        &["inspect", "1"],
+        &["sweep", "1"],
+        &["damage", "1"],
+        &["damage", "1", "x"],
+        &["kinds", "0", "1"],
+        &["kinds", "4097", "1"],
+        &["time"],
+        &["time", "file", "0"],
     ];
     for arguments in cases {
         let output = run_program(arguments, "");

@@ -1,0 +1,63 @@
+//! Counts for allocates, as the available blocks and the list's places allow or not.
+
+use super::Damage;
+use crate::bitmap::Bitmap;
+use crate::calls::MAX_COUNT;
+use crate::line::Operation;
+use crate::test_line::TestLine;
+
+/// The most allocates that leave few blocks available.
+const MOST_ALLOCATES: u32 = 3;
+
+impl Damage {
+    /// A count for which there are blocks and places, if there are any.
+    pub(super) fn right_count(&mut self) -> Option<u32> {
+        let most = self.available().min(MAX_COUNT).min(self.state.places as u32);
+        (most > 0).then(|| 1 + self.random.below(most))
+    }
+
+    /// A shorter list than the count, or now and then one that is just long enough.
+    pub(super) fn shorten_list(&mut self) -> u32 {
+        let any = self.random.below(MAX_COUNT);
+        let places = self.random.choose(&[0, 0, 1, 63, any, any]);
+        self.alter(TestLine::List { places });
+        let longer = MAX_COUNT - places;
+        match self.random.below(5) {
+            0 => places.max(1),
+            1 => MAX_COUNT,
+            2 => places + 1,
+            _ => places + 1 + self.random.below(longer),
+        }
+    }
+
+    /// Makes the list long enough and gives a count with too few blocks available, or now and then
+    /// just enough.
+    pub(super) fn leave_few_available(&mut self, slot: u32) -> Option<u32> {
+        self.lengthen_list();
+        for _ in 0..MOST_ALLOCATES {
+            if self.available() >= MAX_COUNT {
+                self.call(Operation::Allocate, slot, MAX_COUNT);
+            }
+        }
+        let available = self.available();
+        let beyond = MAX_COUNT.checked_sub(available).filter(|beyond| *beyond > 0)?;
+        match self.random.below(6) {
+            0 => Some(available.max(1)),
+            1 => Some(MAX_COUNT),
+            2 | 3 => Some(available + 1),
+            _ => Some(available + 1 + self.random.below(beyond)),
+        }
+    }
+
+    pub(super) fn lengthen_list(&mut self) {
+        if self.state.places < MAX_COUNT as usize {
+            self.alter(TestLine::List { places: MAX_COUNT });
+        }
+    }
+
+    /// The number of blocks with SAM 0 and COM 0.
+    pub(super) fn available(&self) -> u32 {
+        let memory = &self.state.memory;
+        (0..Bitmap::WORDS).map(|word| memory.available_in(word).count_ones()).sum()
+    }
+}

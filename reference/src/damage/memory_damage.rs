@@ -1,0 +1,128 @@
+//! Small changes to the memory's bitmaps, slots and block count, most of which make it invalid.
+
+use super::Damage;
+use crate::bitmap::Bitmap;
+use crate::codes::slot_state_code;
+use crate::line::Operation;
+use crate::memory::{Memory, Pending, SlotState};
+use crate::test_line::TestLine;
+
+/// A bitmap of the memory.
+#[derive(Clone, Copy)]
+enum Map {
+    Sam,
+    Com,
+    Tam(u32),
+}
+
+impl Damage {
+    pub(super) fn damage_memory(&mut self) {
+        match self.random.below(13) {
+            0 | 1 => self.flip_a_bit(),
+            2 => self.flip_an_outer_bit(),
+            3 => {
+                let block = self.outer_block().unwrap_or(0);
+                self.flip_everywhere(block);
+            }
+            4 | 5 => self.touch_by_several(),
+            6 | 7 => self.change_state(),
+            8 => self.change_blocks(),
+            9..=11 => self.change_pending(),
+            _ => self.replace_a_word(),
+        }
+    }
+
+    /// Flips the block's bit in SAM, in COM and in the bitmap of each active slot: below m the
+    /// memory stays valid, but its disk is another's.
+    pub(super) fn flip_everywhere(&mut self, block: u32) {
+        self.flip(Map::Sam, block);
+        self.flip(Map::Com, block);
+        self.active_slots().into_iter().for_each(|slot| self.flip(Map::Tam(slot), block));
+    }
+
+    fn flip_a_bit(&mut self) {
+        let (map, block) = (self.any_map(), self.volume_block());
+        self.flip(map, block);
+    }
+
+    fn flip_an_outer_bit(&mut self) {
+        let map = self.any_map();
+        let block = self.outer_block().unwrap_or(0);
+        self.flip(map, block);
+    }
+
+    /// Up to three active slots touch one block, and COM follows or not. Rightly just one does, and
+    /// COM follows; with two and COM as it was, or three and COM changed, the parity is right.
+    fn touch_by_several(&mut self) {
+        let block = self.volume_block();
+        let slots = self.random.choose(&[1, 2, 2, 3]);
+        let slots = self.slots_to_touch(slots);
+        let odd = slots.len() % 2 == 1;
+        slots.into_iter().for_each(|slot| self.flip(Map::Tam(slot), block));
+        if odd != self.random.one_in(4) {
+            self.flip(Map::Com, block);
+        }
+    }
+
+    /// This many active slots, some of them started for it, or fewer if work is pending.
+    fn slots_to_touch(&mut self, wanted: usize) -> Vec<u32> {
+        let mut slots = self.active_slots();
+        let first = self.random.below(slots.len() as u32) as usize;
+        slots.rotate_left(first);
+        slots.truncate(wanted);
+        let at_rest = self.state.memory.pending == Pending::Nothing;
+        let missing = if at_rest { wanted - slots.len() } else { 0 };
+        for _ in 0..missing {
+            if let Some(slot) = self.choose_slot(SlotState::Idle) {
+                self.call(Operation::Start, slot, 0);
+                slots.push(slot);
+            }
+        }
+        slots
+    }
+
+    fn change_state(&mut self) {
+        let slot = self.random.below(Memory::SLOTS as u32);
+        let code = slot_state_code(self.state.memory.slots[slot as usize].state);
+        let code = (code + 1 + self.random.below(2)) % 3;
+        self.alter(TestLine::State { slot, code });
+    }
+
+    fn change_blocks(&mut self) {
+        let blocks = self.state.memory.blocks;
+        let (less, more) = (blocks.wrapping_sub(1), blocks.wrapping_add(1));
+        let blocks = self.random.choose(&[0, less, less, more, 1, 4096, 4097, u32::MAX]);
+        self.alter(TestLine::Blocks { blocks });
+    }
+
+    fn replace_a_word(&mut self) {
+        let index = self.random.below(Bitmap::WORDS as u32);
+        let word = self.any_word();
+        let line = match self.any_map() {
+            Map::Sam => TestLine::Sam { index, word },
+            Map::Com => TestLine::Com { index, word },
+            Map::Tam(slot) => TestLine::Tam { slot, index, word },
+        };
+        self.alter(line);
+    }
+
+    fn any_map(&mut self) -> Map {
+        let slot = self.random.below(Memory::SLOTS as u32);
+        self.random.choose(&[Map::Sam, Map::Com, Map::Tam(slot), Map::Tam(slot)])
+    }
+
+    fn flip(&mut self, map: Map, block: u32) {
+        let (index, bit) = (block / Bitmap::WORD_BITS, 1 << (block % Bitmap::WORD_BITS));
+        let memory = &self.state.memory;
+        let flipped = |bitmap: &Bitmap| bitmap.words[index as usize] ^ bit;
+        let line = match map {
+            Map::Sam => TestLine::Sam { index, word: flipped(&memory.sam) },
+            Map::Com => TestLine::Com { index, word: flipped(&memory.com) },
+            Map::Tam(slot) => {
+                let word = flipped(&memory.slots[slot as usize].tam);
+                TestLine::Tam { slot, index, word }
+            }
+        };
+        self.alter(line);
+    }
+}

@@ -1,0 +1,116 @@
+//! The ways to a state without pending work, to one with it, and to a slot in a wanted state.
+
+use super::log_damage::Fault;
+use super::Damage;
+use crate::line::Operation;
+use crate::memory::{Memory, Pending, SlotState};
+
+/// Pending work with more stores left than this isn't run to its end.
+const MOST_STORES: u32 = 24;
+const MOST_TOUCHES: u32 = 4;
+
+impl Damage {
+    /// Sees to it that nothing is pending, unless too many stores are left.
+    pub(super) fn come_to_rest(&mut self) -> Option<()> {
+        if self.state.memory == Memory::ZEROS {
+            self.call(Operation::Open, 0, 0);
+        }
+        if self.stores_left() > MOST_STORES && self.random.one_in(3) {
+            self.make_volume();
+        }
+        if self.stores_left() <= MOST_STORES {
+            self.make_stores(self.stores_left());
+        }
+        (self.stores_left() == 0).then_some(())
+    }
+
+    /// Sees to it that a commit or a recovery is pending, at any of its stores.
+    pub(super) fn come_to_work(&mut self) -> Option<()> {
+        if self.stores_left() == 0 {
+            if self.random.one_in(2) {
+                self.begin_commit()?;
+            } else {
+                self.write_log(Fault::Sound);
+                self.call(Operation::Open, 0, 0);
+            }
+            let stores = self.random.below(self.stores_left());
+            self.make_stores(stores.min(MOST_STORES));
+        }
+        (self.stores_left() > 0).then_some(())
+    }
+
+    fn begin_commit(&mut self) -> Option<()> {
+        let slot = self.slot_in(SlotState::Open)?;
+        for _ in 0..=self.random.below(MOST_TOUCHES) {
+            self.touch(slot);
+        }
+        self.call(Operation::Precommit, slot, 0);
+        self.call(Operation::Commit, slot, 0);
+        Some(())
+    }
+
+    /// Allocates or frees something, if there is something to be had.
+    pub(super) fn touch(&mut self, slot: u32) {
+        let held = self.block_with(true, true);
+        match held {
+            Some(block) if self.random.one_in(2) => {
+                self.call(Operation::Deallocate, slot, block);
+            }
+            _ => {
+                if let Some(count) = self.right_count() {
+                    self.call(Operation::Allocate, slot, count);
+                }
+            }
+        }
+    }
+
+    /// A slot in this state with nothing pending, brought there by calls if there is none.
+    pub(super) fn slot_in(&mut self, state: SlotState) -> Option<u32> {
+        self.come_to_rest()?;
+        if let Some(slot) = self.choose_slot(state) {
+            return Some(slot);
+        }
+        let slot = self.random.below(Memory::SLOTS as u32);
+        if self.state_of(slot) == SlotState::Precommitted || state == SlotState::Idle {
+            self.call(Operation::Rollback, slot, 0);
+        }
+        if self.state_of(slot) == SlotState::Idle && state != SlotState::Idle {
+            self.call(Operation::Start, slot, 0);
+        }
+        if state == SlotState::Precommitted {
+            self.call(Operation::Precommit, slot, 0);
+        }
+        (self.state_of(slot) == state).then_some(slot)
+    }
+
+    /// One of the slots in this state, if there is one.
+    pub(super) fn choose_slot(&mut self, state: SlotState) -> Option<u32> {
+        let slots = (0..Memory::SLOTS as u32).filter(|slot| self.state_of(*slot) == state);
+        let slots: Vec<u32> = slots.collect();
+        (!slots.is_empty()).then(|| self.random.choose(&slots))
+    }
+
+    pub(super) fn active_slots(&self) -> Vec<u32> {
+        let active = |slot: &u32| self.state_of(*slot) != SlotState::Idle;
+        (0..Memory::SLOTS as u32).filter(active).collect()
+    }
+
+    fn state_of(&self, slot: u32) -> SlotState {
+        self.state.memory.slots[slot as usize].state
+    }
+
+    pub(super) fn stores_left(&self) -> u32 {
+        match self.state.memory.pending {
+            Pending::Nothing => 0,
+            Pending::Commit { done, due, .. } | Pending::Recovery { done, due } => {
+                due.saturating_sub(done)
+            }
+        }
+    }
+
+    pub(super) fn make_stores(&mut self, stores: u32) {
+        for _ in 0..stores {
+            self.call(Operation::Store, 0, 0);
+        }
+    }
+}

@@ -1,0 +1,67 @@
+//! The damaging sequences reach each cause for each call that it names, and in many ways.
+
+use crate::damage_observer::observe;
+use reference::line::Operation;
+
+/// Document 01's table: the calls that each of the causes 1 to 20 names.
+const CALLS: [&str; 20] = [
+    "start alloc free pre commit roll store stat",
+    "format open store",
+    "open",
+    "open",
+    "open",
+    "store",
+    "format",
+    "start alloc free pre commit roll",
+    "store",
+    "start alloc free pre commit roll",
+    "start",
+    "alloc free pre commit roll",
+    "alloc free pre",
+    "commit",
+    "alloc",
+    "alloc",
+    "alloc",
+    "free",
+    "free",
+    "free",
+];
+
+/// Every call that a cause names is refused for it this often, and no other call.
+fn assert_reached(seed: u64, lines: usize, least: u32) {
+    let seen = observe(seed, lines);
+    for (code, calls) in (1..).zip(CALLS) {
+        for operation in Operation::ALL {
+            let times = seen.refused[code][operation as usize];
+            let named = calls.split(' ').any(|word| word == operation.word());
+            let right = if named { times >= least } else { times == 0 };
+            assert!(right, "{} gets {code} {times} times in seed {seed}", operation.word());
+        }
+    }
+    assert!(seen.not_in_form + seen.out_of_range >= least, "cause 21 in seed {seed}");
+}
+
+#[test]
+fn every_cause_is_reached_for_every_call_that_it_names() {
+    (0..8).for_each(|seed| assert_reached(seed, 3000, 4));
+    assert_reached(8, 60_000, 75);
+}
+
+#[test]
+fn the_damage_is_of_many_kinds() {
+    let seen = observe(9, 60_000);
+    println!("{seen:?}");
+    assert!(seen.not_in_form >= 200 && seen.out_of_range >= 100 && seen.shows >= 6000);
+    assert!(seen.finished_commits >= 200 && seen.finished_recoveries >= 200);
+    assert!(seen.busy >= 1000);
+    assert!(seen.several_touches >= 50 && seen.outer_bits >= 50);
+    assert!([0, 1, 385, 387, 400].iter().all(|length| seen.lengths.contains(length)));
+    assert!(seen.log_faults.iter().all(|times| *times >= 20));
+    assert!(seen.mismatches.iter().all(|times| *times >= 75));
+    let [in_commits, in_recoveries] = &seen.mismatches_at;
+    assert!(in_commits.iter().filter(|done| **done > 100).count() >= 10);
+    assert!((0..5).all(|done| in_commits.contains(&done) && in_recoveries.contains(&done)));
+    assert!(in_recoveries.iter().any(|done| *done > 10));
+    assert!(seen.loose_stores >= 200 && seen.loose_outer_bits >= 10);
+    assert!(seen.empty_lists >= 20);
+}

@@ -1,0 +1,188 @@
+//! What a damaging sequence does: it is run, checked and counted.
+
+use reference::damage::Damage;
+use reference::inspector::Inspector;
+use reference::line::{self, Operation};
+use reference::test_line::{self, TestLine};
+use reference::{
+    Bitmap, Error, Memory, Pending, SlotState, BITMAP_START, LOG_LENGTH_POSITION, LOG_START,
+};
+use std::collections::BTreeSet;
+
+/// What was seen in a sequence.
+#[derive(Default, Debug)]
+pub struct Seen {
+    /// By the error's code and the operation.
+    pub refused: [[u32; Operation::ALL.len()]; 21],
+    pub not_in_form: u32,
+    pub out_of_range: u32,
+    pub shows: u32,
+    pub finished_commits: u32,
+    pub finished_recoveries: u32,
+    /// Refused calls on a valid memory with two or more active slots.
+    pub busy: u32,
+    /// Refused with cause 1: with nothing wrong but that several slots touch a block, where a test
+    /// of the parity would miss it, and with nothing wrong but bits from m on.
+    pub several_touches: u32,
+    pub outer_bits: u32,
+    /// The lengths of disks refused with cause 2.
+    pub lengths: BTreeSet<usize>,
+    /// Refused with cause 5: by the log's length, by a number out of range, equal numbers, falling
+    /// numbers, a bit from m on.
+    pub log_faults: [u32; 5],
+    /// Refused with cause 6: with nothing pending, in a commit, in a recovery.
+    pub mismatches: [u32; 3],
+    /// The stores done at those, in a commit and in a recovery.
+    pub mismatches_at: [BTreeSet<u32>; 2],
+    /// Of those in a recovery, with a bit from m on in a word still to be rewritten.
+    pub loose_outer_bits: u32,
+    /// Stores of a recovery accepted while a word still to be rewritten has other bits.
+    pub loose_stores: u32,
+    /// Refused with cause 16: an empty list.
+    pub empty_lists: u32,
+}
+
+/// Runs a sequence and checks that refused lines leave all as it was.
+pub fn observe(seed: u64, lines: usize) -> Seen {
+    let mut seen = Seen::default();
+    let mut inspector = Inspector::new();
+    for line in Damage::new(seed).take(lines) {
+        let before = inspector.clone();
+        let answer = inspector.run(&line);
+        match (line::parse(&line), answer) {
+            (Some(line), Ok(value)) => {
+                seen.count_accepted(&before, &inspector, line.operation, value)
+            }
+            (Some(line), Err(error)) => {
+                let memory = match line.operation {
+                    Operation::Open => Memory::ZEROS,
+                    _ => before.memory.clone(),
+                };
+                assert_eq!(inspector, Inspector { memory, ..before.clone() });
+                seen.refused[error.code() as usize][line.operation as usize] += 1;
+                seen.count_refused(&before, error);
+            }
+            (None, answer) => {
+                seen.count_test_line(&line, answer.is_ok());
+                assert!(answer == Ok(0) || answer == Err(Error::MalformedLine));
+                assert!(answer.is_ok() || inspector == before);
+            }
+        }
+    }
+    seen
+}
+
+impl Seen {
+    fn count_test_line(&mut self, line: &[u8], accepted: bool) {
+        match test_line::parse(line) {
+            Some(TestLine::Show) => self.shows += 1,
+            Some(_) => self.out_of_range += u32::from(!accepted),
+            None => self.not_in_form += 1,
+        }
+    }
+
+    fn count_accepted(
+        &mut self,
+        before: &Inspector,
+        after: &Inspector,
+        operation: Operation,
+        value: u32,
+    ) {
+        let may_be_invalid = matches!(operation, Operation::Format | Operation::Crash);
+        assert!(may_be_invalid || after.memory.is_valid());
+        match before.memory.pending {
+            _ if operation != Operation::Store => {}
+            Pending::Commit { .. } => self.finished_commits += u32::from(value == 0),
+            Pending::Recovery { done, .. } => {
+                self.finished_recoveries += u32::from(value == 0);
+                let mut loose = loose_words(before, done + 1);
+                self.loose_stores += u32::from(loose.any(|(_, found, logged)| found != logged));
+            }
+            Pending::Nothing => panic!("a store with nothing pending is accepted"),
+        }
+    }
+
+    fn count_refused(&mut self, state: &Inspector, error: Error) {
+        let memory = &state.memory;
+        self.busy += u32::from(memory.is_valid() && memory.active_slots().count() > 1);
+        match error {
+            Error::InvalidMemory => self.count_invalid(memory),
+            Error::DiskLength => drop(self.lengths.insert(state.disk.len())),
+            Error::DiskLog => self.log_faults[log_fault(&state.disk)] += 1,
+            Error::DiskMismatch => self.count_mismatch(state),
+            Error::ListLength => self.empty_lists += u32::from(state.places == 0),
+            _ => {}
+        }
+    }
+
+    fn count_invalid(&mut self, memory: &Memory) {
+        let odd_touches = |word: usize| {
+            let sam = memory.sam.words[word];
+            memory.active_slots().fold(0, |touched, slot| touched ^ slot.tam.words[word] ^ sam)
+        };
+        let differences = |word: usize| memory.sam.words[word] ^ memory.com.words[word];
+        let right_parity = (0..128).all(|word| odd_touches(word) == differences(word));
+        let in_range = (1..=4096).contains(&memory.blocks);
+        let mut idle = memory.slots.iter().filter(|slot| slot.state == SlotState::Idle);
+        let idle_are_empty = idle.all(|slot| slot.tam == Bitmap::EMPTY);
+        if right_parity && in_range && idle_are_empty && memory.pending == Pending::Nothing {
+            let outer = |block| memory.sam.has(block) || memory.com.has(block);
+            let has_outer_bits = (memory.blocks..4096).any(outer);
+            self.outer_bits += u32::from(has_outer_bits);
+            self.several_touches += u32::from(!has_outer_bits);
+        }
+    }
+
+    fn count_mismatch(&mut self, state: &Inspector) {
+        match state.memory.pending {
+            Pending::Nothing => self.mismatches[0] += 1,
+            Pending::Commit { done, .. } => {
+                self.mismatches[1] += 1;
+                self.mismatches_at[0].insert(done);
+            }
+            Pending::Recovery { done, .. } => {
+                self.mismatches[2] += 1;
+                self.mismatches_at[1].insert(done);
+                let is_outer = |(word, found, _)| !fits(state.memory.blocks, word, found);
+                self.loose_outer_bits += u32::from(loose_words(state, done).any(is_outer));
+            }
+        }
+    }
+}
+
+/// The log entries from this one on: the word's number, what stands in the bitmap and in the log.
+fn loose_words(state: &Inspector, done: u32) -> impl Iterator<Item = (u32, u32, u32)> + '_ {
+    let found = |word: u32| state.disk.get(BITMAP_START + word as usize).copied().unwrap_or(0);
+    let entries = entries(&state.disk).skip(done as usize);
+    entries.filter(|(word, _)| *word < 128).map(move |(word, logged)| (word, found(word), logged))
+}
+
+/// The log's first fault, in the order of `log_faults`.
+fn log_fault(disk: &[u32]) -> usize {
+    let words = disk[0].div_ceil(32);
+    if disk[LOG_LENGTH_POSITION] > words {
+        return 0;
+    }
+    let mut last = None;
+    for (word, contents) in entries(disk) {
+        match last {
+            _ if word >= words => return 1,
+            Some(last) if last == word => return 2,
+            Some(last) if last > word => return 3,
+            _ if !fits(disk[0], word, contents) => return 4,
+            _ => last = Some(word),
+        }
+    }
+    panic!("a log without a fault is refused");
+}
+
+fn entries(disk: &[u32]) -> impl Iterator<Item = (u32, u32)> + '_ {
+    let log_length = disk[LOG_LENGTH_POSITION] as usize;
+    disk[LOG_START..].chunks(2).map(|pair| (pair[0], pair[1])).take(log_length)
+}
+
+/// Whether this bitmap word has no bit from m on.
+fn fits(blocks: u32, word: u32, contents: u32) -> bool {
+    let below = blocks.saturating_sub(32 * word).min(32);
+    u64::from(contents) >> below == 0
+}
