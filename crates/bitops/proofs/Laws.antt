@@ -1,5 +1,4 @@
 -- What the words that this crate's functions leave say of blocks.
-pub mod Array
 pub mod Bitmap
 pub mod Overwrite
 pub mod Block
@@ -9,4 +8,3 @@ pub mod Count
 pub mod Available
 pub mod Scan
 pub mod Take
-pub mod Memory

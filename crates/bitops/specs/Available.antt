@@ -1,8 +1,7 @@
 -- Available blocks, a word at a time and one after another.
-use Prim.Native.Nat.{ℕ, _+_, _-_, _*_, _^_, min}
-use mathlib.Core.Path.{_≡_}
+use Prim.Native.Nat.{ℕ, _-_, _*_, _^_, min}
 use mathlib.Core.List.{List}
-use lib.ListN.{length, getD}
+use lib.ListN.{getD}
 use lib.Bits.{bitAnd, bitOr}
 use Rattle.bitmap.specs.Blocks.{from, isAvailable}
 
@@ -13,10 +12,6 @@ availableWord m sam «com» k = bitAnd (2 ^ 32 - 1 - bitOr (getD sam k 0) (getD 
 -- the available blocks from p on, rising
 abbrev pub availableFrom : ℕ → List ℕ → List ℕ → ℕ → List ℕ
 availableFrom m sam «com» p = from (isAvailable sam «com») m p
-
--- r of them are in the words from lo up to hi: r and those of the words from hi on are those of the words from lo on
-abbrev pub InWords : ℕ → List ℕ → List ℕ → ℕ → ℕ → ℕ → Type 0
-InWords m sam «com» lo hi r = r + length (availableFrom m sam «com» (32 * hi)) ≡ length (availableFrom m sam «com» (32 * lo))
 
 -- the lowest of them, or m where there is none
 unfoldable pub nextAvailable : ℕ → List ℕ → List ℕ → ℕ → ℕ

@@ -23,12 +23,7 @@ fn refresh_word(old: u32, new: u32, other: u32) -> u32
 }
 
 // Puts the majority of SAM, COM and TAM into out: the SAM that a commit makes.
-pub fn majority<'a>(
-    out: &mut [u32; 128],
-    sam: &'a [u32; 128],
-    com: &'a [u32; 128],
-    tam: &'a [u32; 128],
-)
+pub fn majority(out: &mut [u32; 128], sam: &[u32; 128], com: &[u32; 128], tam: &[u32; 128])
     requires { ⌜ length (now out) ≡ bitmapWords ⌝ }
     requires { ⌜ IsBitmap (now sam) ⌝ }
     requires { ⌜ IsBitmap (now «com») ⌝ }
@@ -41,7 +36,7 @@ pub fn majority<'a>(
 }
 
 // Makes COM the majority of COM, SAM and the complement of TAM: what a rollback leaves.
-pub fn rollback<'a>(com: &mut [u32; 128], sam: &'a [u32; 128], tam: &'a [u32; 128])
+pub fn rollback(com: &mut [u32; 128], sam: &[u32; 128], tam: &[u32; 128])
     requires { ⌜ IsBitmap (now «com») ⌝ }
     requires { ⌜ IsBitmap (now sam) ⌝ }
     requires { ⌜ IsBitmap (now tam) ⌝ }
@@ -53,7 +48,7 @@ pub fn rollback<'a>(com: &mut [u32; 128], sam: &'a [u32; 128], tam: &'a [u32; 12
 }
 
 // Gives TAM the new SAM's bit of each block whose SAM bit another slot's commit changed.
-pub fn refresh<'a>(tam: &mut [u32; 128], old: &'a [u32; 128], new: &'a [u32; 128])
+pub fn refresh(tam: &mut [u32; 128], old: &[u32; 128], new: &[u32; 128])
     requires { ⌜ IsBitmap (now tam) ⌝ }
     requires { ⌜ IsBitmap (now old) ⌝ }
     requires { ⌜ IsBitmap (now new) ⌝ }

@@ -11,7 +11,7 @@ ghost use Rattle.model.specs.Stores.{changes};
 use bitmap::Bitmap;
 
 // Whether two bitmaps are the same.
-pub fn same<'a>(a: &'a [u32; 128], b: &'a [u32; 128]) -> bool
+pub fn same(a: &[u32; 128], b: &[u32; 128]) -> bool
     requires { ⌜ IsBitmap (now a) ⌝ }
     requires { ⌜ IsBitmap (now b) ⌝ }
     ensures { λ r. ⌜ r ≡ sameWords (now (a .entry)) (now (b .entry)) ⌝ }
@@ -69,7 +69,7 @@ fn differs(a: u32, b: u32) -> u32
 }
 
 // The number of words in which two bitmaps differ.
-pub fn changed<'a>(old: &'a [u32; 128], new: &'a [u32; 128]) -> u32
+pub fn changed(old: &[u32; 128], new: &[u32; 128]) -> u32
     requires { ⌜ IsBitmap (now old) ⌝ }
     requires { ⌜ IsBitmap (now new) ⌝ }
     ensures { λ r. ⌜ r ≡ length (changes (now (old .entry)) (now (new .entry))) ⌝ }

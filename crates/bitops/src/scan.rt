@@ -10,7 +10,7 @@ use crate::block;
 use bitmap::Bitmap;
 
 // The lowest available block from start on, or the number of blocks where there is none.
-pub fn next_available<'a>(sam: &'a [u32; 128], com: &'a [u32; 128], blocks: u32, start: u32) -> u32
+pub fn next_available(sam: &[u32; 128], com: &[u32; 128], blocks: u32, start: u32) -> u32
     requires { ⌜ IsBitmap (now sam) ⌝ }
     requires { ⌜ IsBitmap (now «com») ⌝ }
     requires { ⌜ blocks ≤ maxBlocks ⌝ }
@@ -39,8 +39,7 @@ pub fn take_lowest(
     count: u32,
 )
     requires { ⌜ CanTake blocks count (now sam) (now «com») (now tam) (now list) ⌝ }
-    ensures { λ _. ⌜ Takes blocks count (now (sam .entry)) (now («com» .entry)) (now (tam .entry)) (now (list .entry))
-        (now («com» .exit)) (now (tam .exit)) (now (list .exit)) ⌝ }
+    ensures { λ _. ⌜ Takes blocks count (now (sam .entry)) (now («com» .entry)) (now (tam .entry)) (now (list .entry)) (now («com» .exit)) (now (tam .exit)) (now (list .exit)) ⌝ }
 {
     let mut next = 0;
     for n in 0..count {

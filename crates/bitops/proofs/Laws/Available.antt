@@ -1,19 +1,20 @@
 -- The available blocks of a word: which bits they are, and how many.
 use Prim.Native.Nat.{ℕ, zero, suc, _+_, _-_, _*_, _/_, _%_, _^_, _≤_, _<_, min}
-use native.Mathlib.Nat.{sub-zero, add-zero, le-step, lt-of-le-of-lt, mod-eq-of-lt}
+use native.Mathlib.Nat.{sub-zero, add-zero, add-suc, suc-add, le-step, lt-of-le-of-lt, mod-eq-of-lt}
+use native.Mathlib.Numerals.{add-one}
 use native.Mathlib.Omega.{arith}
 use mathlib.Core.Path.{_≡_, refl, sym, ap, ap₂, _∙_}
 use mathlib.Core.Logic.{⊎-elim}
 use mathlib.Core.Bool.{Bool, true, false, not, cond, _&&_, _||_, and-true, and-false}
-use mathlib.Core.List.{List, _∷_}
+use mathlib.Core.List.{List, [], _∷_}
 use lib.ListN.{length, getD}
 use lib.Arith.{lt-one}
-use lib.Dec.{ltb}
+use lib.Dec.{eqb, ltb}
 use lib.Bits.{bitAnd, bitOr, and-le-l, and-mask, or-lt}
 use lib.Count.{ones, ones-step}
 use lib.Pow.{pow-pos, ones-lt, ones-sub-lt}
 use borrow.Author.Tests.{lt-ltb, le-ltb}
-use Rattle.bitmap.specs.Bits.{isSet, IsBitmap}
+use Rattle.bitmap.specs.Bits.{isSet, bit, IsBitmap}
 use Rattle.bitmap.specs.Blocks.{from, isAvailable}
 use Rattle.bitmap.proofs.Laws.Word.{isSet-zero, isSet-small, isSet-half, half-and-low, isSet-and, isSet-or, isSet-not}
 use Rattle.bitmap.proofs.Laws.Bits.{below-or-from, bit-word}

@@ -1,6 +1,6 @@
 -- Three bitmaps combined word by word: the words and bits of the result, how a loop makes it, and the bitmaps that a
 -- commit, a rollback and another slot's commit make.
-use Prim.Native.Nat.{ℕ, zero, suc, _+_, _-_, _/_, _%_, _^_, _≤_, _<_}
+use Prim.Native.Nat.{ℕ, zero, suc, _+_, _-_, _*_, _/_, _%_, _^_, _≤_, _<_}
 use native.Mathlib.Nat.{not-suc-le-zero}
 use native.Mathlib.Omega.{arith}
 use mathlib.Core.Path.{_≡_, refl, sym, ap, ap₂, _∙_}
@@ -8,7 +8,7 @@ use mathlib.Core.Logic.{⊎-elim}
 use mathlib.Core.Bool.{Bool, true, false, not, xor, cond, _&&_, _||_}
 use mathlib.Core.List.{List, [], _∷_}
 use lib.ListN.{length, getD, set, List·getD-eq-default}
-use lib.Bits.{bitAnd, bitXor, and-lt, or-lt, xor-lt}
+use lib.Bits.{bitAnd, bitOr, bitXor, and-lt, or-lt, xor-lt}
 use lib.Pow.{ones-sub-lt}
 use Rattle.bitmap.specs.Bits.{isSet, bit, bitmapOf, noBitsFrom, IsBitmap}
 use Rattle.bitmap.specs.Majority.{majority}

@@ -11,11 +11,11 @@ use lib.Dec.{eqb}
 use lib.Count.{trailingZeros, under}
 use lib.Pow.{shr-shr, shr-le}
 use borrow.Author.Tests.{eq-eqb}
-use Rattle.bitmap.specs.Bits.{isSet, IsBitmap}
-use Rattle.bitmap.specs.Blocks.{scan, from, isAvailable, member}
+use Rattle.bitmap.specs.Bits.{isSet, bit, IsBitmap}
+use Rattle.bitmap.specs.Blocks.{scan, from, isAvailable}
 use Rattle.bitmap.proofs.Laws.Word.{isSet-low, isSet-half, isSet-zero, isSet-small}
 use Rattle.bitmap.proofs.Laws.Bits.{below-or-from}
-use Rattle.bitmap.proofs.Laws.Blocks.{from-step, from-skip, from-end, member-from-true}
+use Rattle.bitmap.proofs.Laws.Blocks.{from-step, from-skip, from-end}
 use Rattle.bitops.specs.Available.{availableWord, availableFrom, nextAvailable}
 use Rattle.bitops.proofs.Laws.Available.{isAvailableIn, availableIn-past, availableFrom-in, available-bits, availableWord-lt}
 
@@ -186,12 +186,3 @@ next-found m sam «com» p h = go (availableFrom m sam «com» p) refl h
     go : (bs : List ℕ) → availableFrom m sam «com» p ≡ bs → getD bs 0 m < m → bs ≡ getD bs 0 m ∷ availableFrom m sam «com» (suc (getD bs 0 m))
     go [] e l = absurd (omega arith)
     go (b ∷ bs) e l = ap (λ (r : List ℕ). b ∷ r) (from-rest (isAvailable sam «com») m p b bs e)
-
--- where there is none, none is left
-pub next-none : (m : ℕ) (sam «com» : List ℕ) (p : ℕ) → m ≤ nextAvailable m sam «com» p → availableFrom m sam «com» p ≡ []
-unfolding nextAvailable member
-next-none m sam «com» p h = go (availableFrom m sam «com» p) refl h
-  where
-    go : (bs : List ℕ) → availableFrom m sam «com» p ≡ bs → m ≤ getD bs 0 m → bs ≡ []
-    go [] e l = refl
-    go (b ∷ bs) e l = absurd (omega (arith, member-from-true (isAvailable sam «com») m p b (ap (member b) e ∙ rw (eq-eqb b b refl)) .1))

@@ -45,17 +45,14 @@ loop-again c =
     let at-loop = at-turn .before in
     let at-start = at-loop .before in (
       search needs,
-      at-loop .loop .inv .1
-          ∙ same-step (at-start .args .a .now) (at-start .args .b .now) (at-loop .loop .k) (at-loop .loop .differences) (omega arith) (omega arith),
+      at-loop .loop .inv .1 ∙ same-step (at-start .args .a .now) (at-start .args .b .now) (at-loop .loop .k) (at-loop .loop .differences) (omega arith) (omega arith),
     )
 
 returns : tie.Need-returns Inv-loop μ-loop
 returns c =
     let at-loop = c .before in
     let at-start = at-loop .before in
-    sym
-    (at-loop .loop .inv .1
-    ∙ same-end (at-start .args .a .now) (at-start .args .b .now) (at-loop .loop .k) (at-loop .loop .differences) (omega arith) (omega arith))
+    sym (at-loop .loop .inv .1 ∙ same-end (at-start .args .a .now) (at-start .args .b .now) (at-loop .loop .k) (at-loop .loop .differences) (omega arith) (omega arith))
 
 pub same-spec : {M : Type 1} → statement M
 same-spec =

@@ -13,16 +13,16 @@ use Rattle.bitops.proofs.count.count_word.Reads as count-word-reads
 use Rattle.bitops.proofs.count.+count_words.{statement}
 use Rattle.bitops.proofs.count.+count_words.Tie.{close}
 
-abbrev μ-count-words : Measures 1 count-words-kinds.ps ℕ
+abbrev μ-count-words : Measures 2 count-words-kinds.ps ℕ
 μ-count-words κs a = a .1 .1 .1 .1 .0 - a .1 .1 .1 .0
 
-abbrev count-words-at : ℕ → In 1 count-words-kinds.ps
+abbrev count-words-at : ℕ → In 2 count-words-kinds.ps
 count-words-at t =
-    and 1 count-words-kinds.ps (is 1 count-words-kinds.ps μ-count-words t) count-words.Pre
+    and 2 count-words-kinds.ps (is 2 count-words-kinds.ps μ-count-words t) count-words.Pre
 
-abbrev count-words-below : ℕ → In 1 count-words-kinds.ps
+abbrev count-words-below : ℕ → In 2 count-words-kinds.ps
 count-words-below t =
-    and 1 count-words-kinds.ps (falls 1 count-words-kinds.ps _<_ μ-count-words t) count-words.Pre
+    and 2 count-words-kinds.ps (falls 2 count-words-kinds.ps _<_ μ-count-words t) count-words.Pre
 
 -- src/count.rt:45:8
 count-words-sub-if1 : (t : ℕ) → count-words-lts.Need-sub-if1 (

@@ -2,16 +2,16 @@
 -- `next` on.
 use Prim.Native.Nat.{_≤_, _<_, _-_}
 use native.Mathlib.Omega.{arith}
-use mathlib.Core.Path.{_≡_, refl, _∙_}
+use mathlib.Core.Path.{_≡_, refl, sym, _∙_}
 use lib.ListN.{length, length-set}
 use borrow.Author.Needs.{needs}
+use Rattle.bitmap.specs.Blocks.{availableBlocks}
 use Rattle.bitops.proofs.Laws.Take.{Taken, taken-none, taken-is, found-below, taken-more}
 use Rattle.bitops.proofs.scan.take_lowest.Statement.{statement}
 use Rattle.bitops.proofs.scan.take_lowest.Tie as tie
 
 abbrev Inv-loop : tie.InvT-loop
-Inv-loop sam com₀ tam₀ list₀ blocks count next₀ n₀ «com» tam list next n =
-    (n ≤ count) × (length list ≡ length list₀) × Taken blocks sam com₀ tam₀ list₀ n next «com» tam list
+Inv-loop sam com₀ tam₀ list₀ blocks count next₀ n₀ «com» tam list next n = (n ≤ count) × (length list ≡ length list₀) × Taken blocks sam com₀ tam₀ list₀ n next «com» tam list
 
 abbrev μ-loop : tie.MeasureT-loop
 μ-loop sam com₀ tam₀ list₀ blocks count next₀ n₀ «com» tam list next n = count - n
@@ -30,9 +30,7 @@ loop-holds : tie.Need-loop-holds Inv-loop μ-loop
 loop-holds c =
     let a = c .before .args in
     let p = c .before .pre in
-    let none = taken-none (a .blocks) (a .sam .now) (a .«com» .now) (a .tam .now) (a .list .now) (p .volume) (p .isCom) (p .isTam) (p .endOfCom)
-    (p .endOfTam) in
-    (search needs, refl, none)
+    (search needs, refl, taken-none (a .blocks) (a .sam .now) (a .«com» .now) (a .tam .now) (a .list .now) (p .volume) (p .isCom) (p .isTam) (p .endOfCom) (p .endOfTam))
 
 next-available-requires : tie.Need-next-available-requires Inv-loop μ-loop
 next-available-requires c κs =
@@ -41,8 +39,7 @@ next-available-requires c κs =
     let p = at-loop .before .before .pre in (
       p .isSam,
       (
-        taken-is (a .blocks) (a .sam .now) (a .«com» .now) (a .tam .now) (a .list .now) (p .volume) (at-loop .loop .n) (at-loop .loop .next)
-            (at-loop .loop .«com») (at-loop .loop .tam) (at-loop .loop .list) (at-loop .loop .inv .2),
+        taken-is (a .blocks) (a .sam .now) (a .«com» .now) (a .tam .now) (a .list .now) (p .volume) (at-loop .loop .n) (at-loop .loop .next) (at-loop .loop .«com») (at-loop .loop .tam) (at-loop .loop .list) (at-loop .loop .inv .2),
         p .volume,
       ),
     )
@@ -65,8 +62,7 @@ slice-write-list c = omega (arith, c .before .before .before .before .before .be
 
 add-next : tie.Need-add-next Inv-loop μ-loop
 add-next c =
-    let at-found = c .before .before .before .before in
-    omega (arith, in-volume at-found, at-found .before .before .before .before .before .pre .volume)
+    omega (arith, in-volume (c .before .before .before .before), c .before .before .before .before .before .before .before .before .before .pre .volume)
 
 add-n : tie.Need-add-n Inv-loop μ-loop
 add-n c = search needs
