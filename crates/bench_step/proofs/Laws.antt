@@ -1,0 +1,3 @@
+-- The step of each op.
+pub mod Open
+pub mod Calls

@@ -1,0 +1,2 @@
+-- Lemmas of the step.
+pub mod Laws

@@ -1,0 +1,2 @@
+-- What a line leaves.
+pub mod Next
