@@ -1,2 +1,3 @@
 -- What a line leaves.
 pub mod Next
+pub mod Answered
