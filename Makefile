@@ -1,24 +1,39 @@
-# make bench [FILE=history]   runs the bench program on document 01's example, or on a file of bench lines
-# make test                   everything: the second allocator's tests, then the prover's gate
-# make clean                  removes what the two made
+# make bench [FILE=history]   proves and builds the bench program and runs it on document 01's example, or on a file of bench lines
+# make test                   everything: the second allocator's tests, the stored tests it makes, then the prover's gate
+# make soak [SEEDS=n]         n more random histories through both allocators; the first difference is shown
+# make speed                  both on the same history, in turn
+# make clean                  removes what these made
 
 FILE ?= bench/example.txt
+SEEDS ?= 20
 REFERENCE := reference/target/release/reference
 
-.PHONY: bench test reference-test reference clean
+.PHONY: bench program reference reference-test stored-tests test soak speed clean
 
-bench: reference
-	@echo "The bench program is not there yet: the second allocator answers in its place." >&2
-	@$(REFERENCE) bench < $(FILE)
+bench: program
+	@target/bin/bench < $(FILE)
+
+program:
+	@mkdir -p target
+	@rt check bench > target/bench.log 2>&1 || { tail -n 20 target/bench.log >&2; exit 1; }
 
 reference:
 	@cargo build --release --quiet --offline --manifest-path reference/Cargo.toml
 
-reference-test:
+reference-test: reference
 	cargo test --release --quiet --offline --manifest-path reference/Cargo.toml
 
-test: reference-test
+stored-tests: reference
+	bench/check-tests
+
+test: reference-test stored-tests
 	rt ci
+
+soak: program reference
+	@bench/soak $(SEEDS)
+
+speed: program reference
+	@python3 bench/speed
 
 clean:
 	rm -rf target reference/target

@@ -5,7 +5,11 @@ ghost use Prim.Native.Nat.{ℕ};
 ghost use Rattle.model.specs.Bench.{benchCall};
 ghost use Rattle.bench_step.specs.Next.{nextOf, withDisk};
 ghost use Rattle.model.specs.Memory.{zeroMemory};
-
+use crate::next::Next;
+use crate::next::changed;
+use crate::next::granted;
+use crate::next::measured;
+use crate::next::stored;
 use allocator::allocate::allocate;
 use allocator::commit::commit;
 use allocator::deallocate::deallocate;
@@ -16,8 +20,8 @@ use allocator::rollback::rollback;
 use allocator::start::start;
 use allocator::status::status;
 use allocator::store::store;
-use crate::next::{changed, granted, measured, stored, Next};
-use model::answer::{Answer, StoresAnswer};
+use model::answer::Answer;
+use model::answer::StoresAnswer;
 use model::line::Op;
 use model::memory::Memory;
 

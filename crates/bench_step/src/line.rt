@@ -7,10 +7,10 @@ ghost use Rattle.model.specs.Line.{parseLine};
 ghost use Rattle.bench_line.specs.Put.{maxAnswer};
 ghost use Rattle.bench_step.specs.Next.{withDisk};
 ghost use Rattle.bench_step.specs.Answered.{Answered};
-
-use bench_line::{parse, print_answer};
 use crate::call::call;
 use crate::next::Next;
+use bench_line::parse;
+use bench_line::print_answer;
 use model::error::Error;
 use model::line::Parsed;
 use model::memory::Memory;

@@ -2,8 +2,10 @@
 ghost use mathlib.Core.Path.{_≡_};
 ghost use Rattle.model.specs.Answers.{doneNumber, grantNumber, grantValue, storesNumber, storesValue, statusNumber, statusValue};
 ghost use Rattle.bench_step.specs.Next.{nextOf};
-
-use model::answer::{Changed, Granted, Measured, Stored};
+use model::answer::Changed;
+use model::answer::Granted;
+use model::answer::Measured;
+use model::answer::Stored;
 use model::memory::Memory;
 
 pub struct Next {

@@ -28,8 +28,8 @@ returns : tie.Need-returns
 returns c =
     let a = c .before .before .before .before .before .before .before .before .before .before .before .before .before .args in
     let q =
-        c .before .before .before .before .before .before .before .step .ensures
-        ∙ ap (λ (p : Parsed). benchStep p (benchOf (a .memory) (now (a .disk)) 0 0)) (c .before .before .before .before .before .before .before .before .before .parse .ensures) in
+    c .before .before .before .before .before .before .before .step .ensures
+    ∙ ap (λ (p : Parsed). benchStep p (benchOf (a .memory) (now (a .disk)) 0 0)) (c .before .before .before .before .before .before .before .before .before .parse .ensures) in
     record {
       memory-is = ap (λ (b : Bench). b .memory) q;
       disk-is = ap (λ (b : Bench). b .disk) q;
@@ -37,7 +37,7 @@ returns c =
           subst
           (λ (b : Bench). Put (now (a .out)) (a .at) (answerLine (a .number) (b .answer) (b .value)) (c .before .before .before .print-answer .last .0) (c .before .before .before .print-answer .result))
           q
-          (c .before .before .before .print-answer .ensures)
+          (c .before .before .before .print-answer .ensures);
     }
 
 pub answer-spec : {M : Type 1} → statement M

@@ -1,0 +1,2 @@
+-- The room that an answer line needs.
+pub mod Room

@@ -1,0 +1,2 @@
+-- Bounds of the program's own counters.
+pub mod Bounds
