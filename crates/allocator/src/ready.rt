@@ -32,7 +32,7 @@ fn is_nothing(pending: Pending) -> bool
 }
 
 // The state of a slot.
-pub fn slot_state(memory: Memory, slot: u32) -> SlotState
+pub(crate) fn slot_state(memory: Memory, slot: u32) -> SlotState
     requires { ⌜ slot < slotCount ⌝ }
     ensures { λ r. ⌜ r ≡ slotAt memory slot .state ⌝ }
 {

@@ -75,7 +75,7 @@ module _ (memory : Memory) (count : ℕ) (list : List ℕ) where
 -- ---- all of its causes
 
 -- what acceptance tells
-pub record Grantable (memory : Memory) (s count : ℕ) (list : List ℕ) : Type 0 where
+pub record CanAllocate (memory : Memory) (s count : ℕ) (list : List ℕ) : Type 0 where
   pub ready : Ready memory s
   pub some : 1 ≤ count
   pub room : count ≤ length list
@@ -90,9 +90,9 @@ module _ (memory : Memory) (s count : ℕ) (list : List ℕ) where
   unfolding allocateError
   count-decides e = sym (accepted-then (openCauses memory s) (countCauses memory count list) e)
 
-  pub grantable : verdict (allocateError memory s count list) ≡ Verdict.Accepted → Grantable memory s count list
+  pub can-allocate : verdict (allocateError memory s count list) ≡ Verdict.Accepted → CanAllocate memory s count list
   unfolding allocateError countOutOfRange listShort tooFewAvailable
-  grantable e =
+  can-allocate e =
       let rest : countError memory count list ≡ none = none-rest (openCauses memory s) (countCauses memory count list) (accepted-none _ e) in
       let h15 = none-holds (countOutOfRange count) CountRange _ rest in
       let h16 = none-holds (listShort list count) ListShort _ (h15 .1) in
@@ -119,7 +119,7 @@ module _ (memory : Memory) (s count : ℕ) (list : List ℕ) where
   allocate-accepted e = rw (accepted-none (allocateError memory s count list) e) (refl, (refl, refl))
 
   -- the first block stands first in the list
-  pub first-listed : Grantable memory s count list → (after : List ℕ) → after ≡ lowest memory count ++ drop count list → getD after 0 0 ≡ getD (lowest memory count) 0 0
+  pub first-listed : CanAllocate memory s count list → (after : List ℕ) → after ≡ lowest memory count ++ drop count list → getD after 0 0 ≡ getD (lowest memory count) 0 0
   unfolding lowest
   first-listed g after e =
       ap (λ (l : List ℕ). getD l 0 0) e

@@ -2,7 +2,7 @@
 use native.Mathlib.Omega.{arith}
 use mathlib.Core.Path.{sym, ap, _∙_}
 use Rattle.model.specs.declared.answer.GrantAnswer.{GrantAnswer}
-use Rattle.allocator.proofs.Laws.Allocate.{Grantable, grantable, allocate-refused, allocate-accepted, first-listed}
+use Rattle.allocator.proofs.Laws.Allocate.{CanAllocate, can-allocate, allocate-refused, allocate-accepted, first-listed}
 use borrow.Author.Needs.{needs}
 use Rattle.allocator.proofs.allocate.allocate.Statement.{statement}
 use Rattle.allocator.proofs.allocate.allocate.Tie as tie
@@ -11,8 +11,8 @@ abbrev start : tie.After-enum-told → tie.Start
 start c = c .before .before .before .before .before
 
 -- what acceptance tells
-told : (c : tie.After-enum-told) → Grantable (start c .args .memory) (start c .args .slot) (start c .args .count) (start c .args .list .now)
-told c = grantable _ _ _ _ (sym (c .before .before .allocate-verdict .ensures) ∙ c .enum-told .given .1)
+told : (c : tie.After-enum-told) → CanAllocate (start c .args .memory) (start c .args .slot) (start c .args .count) (start c .args .list .now)
+told c = can-allocate _ _ _ _ (sym (c .before .before .allocate-verdict .ensures) ∙ c .enum-told .given .1)
 
 allocate-verdict-requires : tie.Need-allocate-verdict-requires
 allocate-verdict-requires c κs = search needs
