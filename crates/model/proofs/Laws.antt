@@ -1,4 +1,5 @@
 -- Laws that follow from the definitions.
+pub mod Fields
 pub mod Causes
 pub mod Writes
 pub mod Entries
