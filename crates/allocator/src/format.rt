@@ -5,11 +5,9 @@ ghost use lib.ListN.{length, replicate};
 ghost use Rattle.model.specs.Sizes.{diskWords};
 ghost use Rattle.model.specs.Calls.Format.{formatAnswer, formatDisk, formatted};
 use bitmap::Bitmap;
+use journal::layout::DISK_WORDS;
 use model::answer::Answer;
 use model::error::Error;
-
-// The words of a disk.
-pub const DISK_WORDS: usize = 386;
 
 // Writes the block count and then zeros.
 fn write_all(disk: &mut [u32], blocks: u32)

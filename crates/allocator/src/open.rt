@@ -4,11 +4,10 @@ ghost use mathlib.Core.Option.{none};
 ghost use Prim.Native.Nat.{_≤_};
 ghost use Rattle.bitmap.specs.Sizes.{bitmapWords};
 ghost use Rattle.model.specs.Calls.Opening.{openError, recoveryPending, recoveryDue, opened, openAnswer, openMemory};
-ghost use Rattle.allocator.specs.Verdicts.{verdict};
-use crate::format::DISK_WORDS;
-use crate::verdict::Verdict;
+ghost use Rattle.verdicts.specs.Verdicts.{verdict};
 use bitmap::Bitmap;
 use journal::layout::BLOCKS_AT;
+use journal::layout::DISK_WORDS;
 use journal::layout::LENGTH_AT;
 use journal::log::log_valid;
 use journal::replay::replay;
@@ -18,6 +17,7 @@ use model::answer::StoresAnswer;
 use model::error::Error;
 use model::memory::Memory;
 use model::memory::Pending;
+use verdicts::verdict::Verdict;
 
 // The causes 2 to 5, in order.
 fn open_verdict(disk: &[u32]) -> Verdict

@@ -1,42 +1,14 @@
 // Precommit: the slot takes no more touches.
 ghost use mathlib.Core.Path.{_≡_};
-ghost use Prim.Native.Nat.{_<_};
-ghost use Rattle.bitmap.specs.Sizes.{slotCount};
-ghost use Rattle.model.specs.Calls.Precommit.{precommitAnswer, precommitMemory, precommitting};
-use crate::ready::ready_open;
-use crate::verdict::Verdict;
-use model::answer::Answer;
+ghost use Rattle.model.specs.Calls.Precommit.{precommitAnswer, precommitMemory};
 use model::answer::Changed;
 use model::memory::Memory;
-use model::memory::Slot;
-use model::memory::SlotState;
-
-// The slot is precommitted, and no bitmap changes.
-fn precommitting(mut memory: Memory, slot: u32) -> Memory
-    requires { ⌜ slot < slotCount ⌝ }
-    ensures { λ r. ⌜ r ≡ precommitting memory slot ⌝ }
-{
-    let at = slot as usize;
-    let holder = memory.slots[at];
-    let tam = holder.tam;
-    memory.slots[at] = Slot::new(SlotState::Precommitted, tam);
-    memory
-}
+use validity::valid;
 
 // Precommits an open slot. Refused, the memory stays.
 pub fn precommit(memory: Memory, slot: u32) -> Changed
     ensures answers { λ r. ⌜ r .answer ≡ precommitAnswer memory slot ⌝ }
     ensures leaves { λ r. ⌜ r .memory ≡ precommitMemory memory slot ⌝ }
 {
-    let verdict = ready_open(memory, slot);
-    match verdict {
-        Verdict::Refused(error) => Changed {
-            answer: Answer::Refused(error),
-            memory,
-        },
-        Verdict::Accepted => Changed {
-            answer: Answer::Done,
-            memory: precommitting(memory, slot),
-        },
-    }
+    transactions::precommit::precommit(valid(memory), memory, slot)
 }

@@ -5,25 +5,19 @@ ghost use Prim.Native.Nat.{ℕ};
 ghost use Rattle.model.specs.Bench.{benchCall};
 ghost use Rattle.bench_step.specs.Next.{nextOf, withDisk};
 ghost use Rattle.model.specs.Memory.{zeroMemory};
+ghost use Rattle.model.specs.Valid.{valid};
 use crate::next::Next;
 use crate::next::changed;
 use crate::next::granted;
 use crate::next::measured;
 use crate::next::stored;
-use allocator::allocate::allocate;
-use allocator::commit::commit;
-use allocator::deallocate::deallocate;
 use allocator::format::format;
 use allocator::open::open;
-use allocator::precommit::precommit;
-use allocator::rollback::rollback;
-use allocator::start::start;
-use allocator::status::status;
-use allocator::store::store;
 use model::answer::Answer;
 use model::answer::StoresAnswer;
 use model::line::Op;
 use model::memory::Memory;
+use validity::valid;
 
 // Format keeps the memory.
 fn format_call(memory: Memory, disk: &mut [u32], n: u32) -> Next
@@ -61,11 +55,12 @@ fn open_call(memory: Memory, disk: &[u32]) -> Next
 }
 
 // The list lent is 64 long.
-fn allocate_call(memory: Memory, slot: u32, n: u32) -> Next
+fn allocate_call(sound: bool, memory: Memory, slot: u32, n: u32) -> Next
+    requires { ⌜ sound ≡ valid memory ⌝ }
     ensures { λ r. ⌜ ((disk : List ℕ) → withDisk r disk ≡ benchCall Op.Allocate slot n memory disk) ⌝ }
 {
     let mut list = [0u32; 64];
-    granted(allocate(memory, slot, n, &mut list))
+    granted(transactions::allocate::allocate(sound, memory, slot, n, &mut list))
 }
 
 // A crash puts the memory of zeros back.
@@ -79,21 +74,22 @@ fn crash_call() -> Next
     }
 }
 
-// Any call.
+// Any call. The memory is tested once, as each of the allocator's calls does.
 pub fn call(op: Op, slot: u32, n: u32, memory: Memory, disk: &mut [u32]) -> Next
     ensures { λ r. ⌜ withDisk r (now (disk .exit)) ≡ benchCall op slot n memory (now (disk .entry)) ⌝ }
 {
+    let sound = valid(memory);
     match op {
         Op::Format => format_call(memory, disk, n),
         Op::Open => open_call(memory, disk),
-        Op::Start => changed(start(memory, slot)),
-        Op::Allocate => allocate_call(memory, slot, n),
-        Op::Deallocate => changed(deallocate(memory, slot, n)),
-        Op::Precommit => changed(precommit(memory, slot)),
-        Op::Commit => stored(commit(memory, slot)),
-        Op::Rollback => changed(rollback(memory, slot)),
-        Op::Store => stored(store(memory, disk)),
-        Op::Status => measured(status(memory)),
+        Op::Start => changed(transactions::start::start(sound, memory, slot)),
+        Op::Allocate => allocate_call(sound, memory, slot, n),
+        Op::Deallocate => changed(transactions::deallocate::deallocate(sound, memory, slot, n)),
+        Op::Precommit => changed(transactions::precommit::precommit(sound, memory, slot)),
+        Op::Commit => stored(storing::commit::commit(sound, memory, slot)),
+        Op::Rollback => changed(transactions::rollback::rollback(sound, memory, slot)),
+        Op::Store => stored(storing::store::store(sound, memory, disk)),
+        Op::Status => measured(transactions::status::status(sound, memory)),
         Op::Crash => crash_call(),
     }
 }

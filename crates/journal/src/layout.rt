@@ -8,3 +8,5 @@ pub const LENGTH_AT: usize = 1;
 pub const BITMAP_AT: usize = 2;
 // Where the log starts: an entry's number, then its contents.
 pub const LOG_AT: usize = 130;
+// The words of a disk.
+pub const DISK_WORDS: usize = 386;

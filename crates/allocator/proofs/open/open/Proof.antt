@@ -2,7 +2,7 @@ use mathlib.Core.Path.{sym, ap, _∙_}
 use native.Mathlib.Omega.{arith}
 use Rattle.model.specs.declared.answer.StoresAnswer.{StoresAnswer}
 use Rattle.model.proofs.Laws.DiskParts.{opens-parts}
-use Rattle.allocator.proofs.Laws.Verdicts.{refused-some, accepted-none}
+use Rattle.verdicts.proofs.Laws.Verdicts.{refused-some, accepted-none}
 use Rattle.allocator.proofs.Laws.Open.{few-logged, accepted, refused}
 use borrow.Author.Needs.{needs}
 use Rattle.allocator.proofs.open.open.Statement.{statement}

@@ -5,7 +5,7 @@ use mathlib.Core.List.{List}
 use denote.Ref.{now}
 use borrow.Author.Needs.{needs}
 use borrow.Author.Tests.{not-true, not-false}
-use Rattle.allocator.specs.Verdicts.{verdict}
+use Rattle.verdicts.specs.Verdicts.{verdict}
 use Rattle.allocator.proofs.Laws.Open.{wrong-length, no-blocks, too-many, stray-bits, bad-log, none-holds}
 use Rattle.allocator.proofs.open.open_verdict.Statement.{statement}
 use Rattle.allocator.proofs.open.open_verdict.Tie as tie

@@ -1,0 +1,2 @@
+-- What a commit makes of the slots.
+pub mod Committed

@@ -1,0 +1,3 @@
+-- The causes that allocate and deallocate alone test.
+pub mod Allocate
+pub mod Deallocate

@@ -1,0 +1,3 @@
+-- What causes come to, one after the other.
+pub mod Verdicts
+pub mod Ready

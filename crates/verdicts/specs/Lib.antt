@@ -1,0 +1,3 @@
+-- Verdicts, and the causes that the six transaction calls test first.
+pub mod Verdicts
+pub mod Ready
