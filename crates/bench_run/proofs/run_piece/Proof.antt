@@ -1,84 +1,108 @@
--- Each turn gathers at least one byte; the counters stay in their bounds.
-use Prim.Native.Nat.{_≤_, _-_}
-use mathlib.Core.Path.{_≡_, refl}
+-- The line that is kept goes on to the first byte 10; then it is answered, and the lines behind it are.
+use Prim.Native.Nat.{_+_, _<_}
+use mathlib.Core.Path.{sym, _∙_}
 use native.Mathlib.Omega.{arith}
-use lib.ListN.{length}
-use Rattle.bench_run.specs.Bounds.{InBounds}
+use lib.ListN.{length, take, length-drop}
+use lib.Seq.{length-take-le}
+use denote.Ref.{now}
+use borrow.Author.Needs.{needs}
+use Rattle.model.specs.Bench.{benchOf}
+use Rattle.bench_run.proofs.Laws.Piece.{piece-first, piece-all, piece-then}
 use Rattle.bench_run.proofs.run_piece.Statement.{statement}
 use Rattle.bench_run.proofs.run_piece.Tie as tie
 
-abbrev Inv-loop : tie.InvT-loop
-Inv-loop input disk₀ line₀ out₀ state₀ start₀ disk line out state start =
-    (start ≤ length input) × InBounds (state .len) (state .number) (state .at) × (length line ≡ 65) × (length out ≡ 65536) × (length disk ≡ length disk₀)
+line-end-requires : tie.Need-line-end-requires
+line-end-requires c κs = search needs
 
-abbrev μ-loop : tie.MeasureT-loop
-μ-loop input disk₀ line₀ out₀ state₀ start₀ disk line out state start = length input - start
+slice-aggregate-keep : tie.Need-slice-aggregate-keep
+slice-aggregate-keep c =
+    let e = c .before .line-end in sym (length-take-le (e .result) (c .before .before .before .before .before .before .args .input .now) (e .ensures .within))
 
-loop-holds : tie.Need-loop-holds Inv-loop μ-loop
-loop-holds c =
-    let p = c .before .before .before .before .pre in (omega arith, p .0, p .1 .0, p .1 .1, refl)
+keep-requires : tie.Need-keep-requires
+keep-requires c κs = search needs
 
-gather-requires : tie.Need-gather-requires Inv-loop μ-loop
-gather-requires c κs =
-    let i = c .before .before .loop .inv in (i .0, (i .1 .kept, i .2))
+same-length : tie.Need-same-length
+same-length c = search needs
 
-answer-line-requires : tie.Need-answer-line-requires Inv-loop μ-loop
-answer-line-requires c κs =
-    let i = c .before .before .before .before .before .before .before .before .before .loop .inv in
-    let g = c .before .before .before .before .before .before .gather in
-    (record { kept = g .ensures .kept; lines = i .1 .lines; room = i .1 .room }, (omega (arith, g .kept .1 .1 .0, i .2), i .3))
-
-loop-less : tie.Need-loop-less Inv-loop μ-loop
-loop-less c =
-    let g = c .before .before .before .before .before .before .before .before .before .before .before .gather in omega (arith, g .ensures .line (c .before .before .before .before .before .before .before .before .if1 .taken), g .ensures .within)
-
-loop-again : tie.Need-loop-again Inv-loop μ-loop
-loop-again c =
-    let i = c .before .before .before .before .before .before .before .before .before .before .before .before .before .before .loop .inv in
-    let g = c .before .before .before .before .before .before .before .before .before .before .before .gather in
-    let a = c .before .before .before .before .answer-line in
-    (g .ensures .within, a .ensures, omega (arith, g .kept .1 .1 .0, i .2), omega (arith, a .kept .1 .1 .1 .0, i .3), omega (arith, a .kept .1 .0, i .4))
-
-loop-less-2 : tie.Need-loop-less-2 Inv-loop μ-loop
-loop-less-2 c =
-    let g = c .before .before .before .gather in omega (arith, g .ensures .ends (c .if1 .left))
-
-loop-again-2 : tie.Need-loop-again-2 Inv-loop μ-loop
-loop-again-2 c =
-    let i = c .before .before .before .before .before .before .loop .inv in
-    let g = c .before .before .before .gather in
-    (g .ensures .within, record { kept = g .ensures .kept; lines = i .1 .lines; room = i .1 .room }, omega (arith, g .kept .1 .1 .0, i .2), i .3, i .4)
-
-same-length : tie.Need-same-length Inv-loop μ-loop
-same-length c =
-    c .before .loop .inv .4
-
-same-length-2 : tie.Need-same-length-2 Inv-loop μ-loop
-same-length-2 c =
-    omega (arith, c .before .loop .inv .2, c .before .before .before .before .before .before .pre .1 .0)
-
-same-length-3 : tie.Need-same-length-3 Inv-loop μ-loop
-same-length-3 c =
-    omega (arith, c .before .loop .inv .3, c .before .before .before .before .before .before .pre .1 .1)
-
-returns : tie.Need-returns Inv-loop μ-loop
+returns : tie.Need-returns
 returns c =
-    c .before .loop .inv .1
+    let s = c .before .before .before .before .before .before .before .before .before .before .before .before in
+    let a = s .args in
+    let e = c .before .before .before .before .before .before .before .line-end in
+    let k = c .before .before .before .before .keep in
+    let line = take (a .run .len) (now (a .line)) in
+    record {
+      leads =
+          piece-all (now (a .input)) (e .result) (e .ensures) (c .if1 .taken)
+          (piece-first (now (a .input)) (e .result) (e .ensures) (take (a .run .at) (now (a .out))) (a .run .number) (benchOf (a .run .memory) (now (a .disk)) 0 0) line (take (k .result) (k .last .1 .0)) (k .ensures .same));
+      bounds = record { kept = k .ensures .few; lines = s .pre .0 .lines };
+      room = omega arith;
+    }
+
+answer-kept-requires : tie.Need-answer-kept-requires
+answer-kept-requires c κs = search needs
+
+add-answer-lines : tie.Need-add-answer-lines
+add-answer-lines c = omega (arith, c .before .before .before .before .before .before .before .before .before .before .before .before .before .before .before .line-end .ensures .within, c .before .before .before .before .before .before .before .before .if1 .left, c .before .before .before .before .before .before .before .before .before .before .before .before .before .before .before .before .before .before .before .before .good .0)
+
+answer-lines-requires : tie.Need-answer-lines-requires
+answer-lines-requires c κs =
+    let s = c .before .before .before .before .before .before .before .before .before .before .before .before .before .before .before .before .before .before .before .before .before .before .before in
+    let e = c .before .before .before .before .before .before .before .before .before .before .before .before .before .before .before .before .before .before .line-end in
+    let n = c .before .before .before .before .before .before .before .answer-kept in
+    let inside : e .result < length (now (s .args .input)) = omega (arith, e .ensures .within, c .before .before .before .before .before .before .before .before .before .before .before .if1 .left) in (
+      omega (arith, inside),
+      (
+        n .ensures .bounds .lines,
+        (
+          omega (arith, c .before .before .before .before .before .before .before .before .before .before .before .before .before .before .before .keep .kept .1 .0, s .pre .1 .0),
+          omega (arith, n .ensures .room, n .kept .1 .1 .1 .0, s .pre .1 .1, inside, length-drop (e .result + 1) (now (s .args .input))),
+        ),
+      ),
+    )
+
+same-length-2 : tie.Need-same-length-2
+same-length-2 c = search needs
+
+same-length-3 : tie.Need-same-length-3
+same-length-3 c = c .before .before .before .before .before .before .answer-lines .kept .1 .1 .1 .1 .0 ∙ c .before .before .before .before .before .before .before .before .before .before .before .before .before .before .before .before .before .before .before .before .before .before .keep .kept .1 .0
+
+same-length-4 : tie.Need-same-length-4
+same-length-4 c = search needs
+
+returns-2 : tie.Need-returns-2
+returns-2 c =
+    let s = c .before .before .before .before .before .before .before .before .before .before .before .before .before .before .before .before .before .before .before .before .before .before .before .before .before .before .before .before .before .before in
+    let a = s .args in
+    let e = c .before .before .before .before .before .before .before .before .before .before .before .before .before .before .before .before .before .before .before .before .before .before .before .before .before .line-end in
+    let k = c .before .before .before .before .before .before .before .before .before .before .before .before .before .before .before .before .before .before .before .before .before .before .keep in
+    let n = c .before .before .before .before .before .before .before .before .before .before .before .before .before .before .answer-kept in
+    let r = c .before .before .before .before .before .before .answer-lines in
+    let inside : e .result < length (now (a .input)) = omega (arith, e .ensures .within, c .before .before .before .before .before .before .before .before .before .before .before .before .before .before .before .before .before .before .if1 .left) in
+    let line = take (a .run .len) (now (a .line)) in
+    record {
+      leads =
+          piece-then (now (a .input)) (e .result) (e .ensures) inside
+          (piece-first (now (a .input)) (e .result) (e .ensures) (take (a .run .at) (now (a .out))) (a .run .number) (benchOf (a .run .memory) (now (a .disk)) 0 0) line (take (k .result) (k .last .1 .0)) (k .ensures .same))
+          (n .ensures .leads)
+          (r .ensures .leads);
+      bounds = r .ensures .bounds;
+      room = omega (arith, n .ensures .room, r .ensures .room, inside, length-drop (e .result + 1) (now (a .input)));
+    }
 
 pub run-piece-spec : {M : Type 1} → statement M
 run-piece-spec =
     tie.close
     (tie.spec
-    Inv-loop
-    μ-loop
-    loop-holds
-    gather-requires
-    answer-line-requires
-    loop-less
-    loop-again
-    loop-less-2
-    loop-again-2
+    line-end-requires
+    slice-aggregate-keep
+    keep-requires
     same-length
+    returns
+    answer-kept-requires
+    add-answer-lines
+    answer-lines-requires
     same-length-2
     same-length-3
-    returns)
+    same-length-4
+    returns-2)
