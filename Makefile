@@ -25,6 +25,7 @@ reference-test: reference
 
 stored-tests: reference
 	bench/check-tests
+	bench/check-causes
 
 test: reference-test stored-tests
 	rt ci

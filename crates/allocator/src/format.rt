@@ -5,9 +5,12 @@ ghost use lib.ListN.{length, replicate};
 ghost use Rattle.model.specs.Sizes.{diskWords};
 ghost use Rattle.model.specs.Calls.Format.{formatAnswer, formatDisk, formatted};
 use bitmap::Bitmap;
-use journal::layout::DISK_WORDS;
+use journal::layout;
 use model::answer::Answer;
 use model::error::Error;
+
+// The words of a disk.
+pub const DISK_WORDS: usize = layout::DISK_WORDS;
 
 // Writes the block count and then zeros.
 fn write_all(disk: &mut [u32], blocks: u32)

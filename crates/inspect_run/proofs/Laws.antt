@@ -1,0 +1,2 @@
+-- The sizes of what is lent.
+pub mod Shape

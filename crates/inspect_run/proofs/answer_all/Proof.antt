@@ -1,0 +1,113 @@
+-- The lines left fall.
+use mathlib.Core.Path.{sym}
+use native.Mathlib.Omega.{arith}
+use lib.Seq.{length-take-le}
+use Prim.Native.Nat.{_≤_, _-_}
+use mathlib.Core.Path.{_≡_}
+use lib.ListN.{length}
+use Rattle.printing.specs.Waits.{Waits}
+use Rattle.inspect_run.specs.Sized.{Sized}
+use Rattle.inspect_run.specs.Reads.{Reading}
+use borrow.Author.Needs.{needs}
+use Rattle.inspect_run.proofs.answer_all.Statement.{statement}
+use Rattle.inspect_run.proofs.answer_all.Tie as tie
+use Rattle.inspect_run.proofs.lent.Lent.new.Reads as lent-Lent-new-reads
+use Rattle.inspect_run.proofs.lines.Reader.new.Reads as lines-Reader-new-reads
+
+abbrev Inv-loop : tie.InvT-loop
+Inv-loop input₀ line₀ out₀ at lent₀ reader₀ end₀ number₀ input line out lent reader end number =
+    (length input ≡ length input₀)
+    × (length line ≡ 65)
+    × Waits out end
+    × Sized lent
+    × Reading (length input) reader
+    × (number ≤ 60001)
+
+abbrev μ-loop : tie.MeasureT-loop
+μ-loop input₀ line₀ out₀ at lent₀ reader₀ end₀ number₀ input line out lent reader end number = 60001 - number
+
+new-requires : tie.Need-new-requires Inv-loop μ-loop
+new-requires c κs = search needs
+
+new-requires-2 : tie.Need-new-requires-2 Inv-loop μ-loop
+new-requires-2 c κs = search needs
+
+loop-holds : tie.Need-loop-holds Inv-loop μ-loop
+loop-holds c = search needs
+
+next-line-requires : tie.Need-next-line-requires Inv-loop μ-loop
+next-line-requires c κs = search needs
+
+same-length : tie.Need-same-length Inv-loop μ-loop
+same-length c = search needs
+
+same-length-2 : tie.Need-same-length-2 Inv-loop μ-loop
+same-length-2 c = search needs
+
+same-length-3 : tie.Need-same-length-3 Inv-loop μ-loop
+same-length-3 c = search needs
+
+returns : tie.Need-returns Inv-loop μ-loop
+returns c = search needs
+
+slice-reshare-prefix-answer : tie.Need-slice-reshare-prefix-answer Inv-loop μ-loop
+slice-reshare-prefix-answer c = search needs
+
+slice-aggregate-answer : tie.Need-slice-aggregate-answer Inv-loop μ-loop
+slice-aggregate-answer c =
+    let n = c .before .before .before .before .before .before .before .next-line in
+    let i = c .before .before .before .before .before .before .before .before .before .before .before .loop .inv in
+    sym (length-take-le (n .result .len) (n .last .1 .1 .0) (omega (arith, n .ensures .line, n .kept .1 .1 .0, i .1)))
+
+answer-requires : tie.Need-answer-requires Inv-loop μ-loop
+answer-requires c κs = search needs
+
+add-number : tie.Need-add-number Inv-loop μ-loop
+add-number c = search needs
+
+loop-less : tie.Need-loop-less Inv-loop μ-loop
+loop-less c = search needs
+
+loop-again : tie.Need-loop-again Inv-loop μ-loop
+loop-again c =
+    let i = c .before .before .before .before .before .before .before .before .before .before .before .before .before .before .before .before .loop .inv in
+    let n = c .before .before .before .before .before .before .before .before .before .before .before .before .next-line in
+    let a = c .before .before .before .answer in
+    (omega (arith, i .0, n .kept .0), omega (arith, i .1, n .kept .1 .1 .0), a .ensures .1, a .ensures .0, n .ensures, omega (arith, c .before .before .before .before .before .before .before .before .before .before .before .before .before .before .before .loop-test .taken))
+
+same-length-4 : tie.Need-same-length-4 Inv-loop μ-loop
+same-length-4 c = search needs
+
+same-length-5 : tie.Need-same-length-5 Inv-loop μ-loop
+same-length-5 c = search needs
+
+same-length-6 : tie.Need-same-length-6 Inv-loop μ-loop
+same-length-6 c = search needs
+
+returns-2 : tie.Need-returns-2 Inv-loop μ-loop
+returns-2 c = search needs
+
+pub answer-all-spec : {M : Type 1} → statement M
+answer-all-spec =
+    tie.close
+    (tie.spec
+    Inv-loop
+    μ-loop
+    new-requires
+    new-requires-2
+    loop-holds
+    next-line-requires
+    same-length
+    same-length-2
+    same-length-3
+    returns
+    slice-reshare-prefix-answer
+    slice-aggregate-answer
+    answer-requires
+    add-number
+    loop-less
+    loop-again
+    same-length-4
+    same-length-5
+    same-length-6
+    returns-2)

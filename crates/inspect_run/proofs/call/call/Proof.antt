@@ -1,0 +1,41 @@
+-- The parts that are lent are parts of the disk and of the list.
+use mathlib.Core.Path.{sym}
+use native.Mathlib.Omega.{arith}
+use lib.Seq.{length-take-le}
+use Rattle.inspect_run.proofs.Laws.Shape.{shaped}
+use borrow.Author.Needs.{needs}
+use Rattle.inspect_run.proofs.call.call.Statement.{statement}
+use Rattle.inspect_run.proofs.call.call.Tie as tie
+
+array-borrow-prefix-disk : tie.Need-array-borrow-prefix-disk
+array-borrow-prefix-disk c =
+    let s = c .before .before in omega (arith, shaped (s .args .lent) _ (s .good .1 .0) .disk, s .pre .disk)
+
+slice-aggregate-any-call : tie.Need-slice-aggregate-any-call
+slice-aggregate-any-call c =
+    let s = c .before .before .before in sym (length-take-le (s .args .lent .length) (s .args .lent .disk) (omega (arith, shaped (s .args .lent) _ (s .good .1 .0) .disk, s .pre .disk)))
+
+array-borrow-prefix-list : tie.Need-array-borrow-prefix-list
+array-borrow-prefix-list c =
+    let s = c .before .before .before in omega (arith, shaped (s .args .lent) _ (s .good .1 .0) .list, s .pre .list)
+
+slice-aggregate-any-call-2 : tie.Need-slice-aggregate-any-call-2
+slice-aggregate-any-call-2 c =
+    let s = c .before .before .before .before in sym (length-take-le (s .args .lent .places) (s .args .lent .list) (omega (arith, shaped (s .args .lent) _ (s .good .1 .0) .list, s .pre .list)))
+
+any-call-requires : tie.Need-any-call-requires
+any-call-requires c κs = search needs
+
+returns : tie.Need-returns
+returns c = search needs
+
+pub call-spec : {M : Type 1} → statement M
+call-spec =
+    tie.close
+    (tie.spec
+    array-borrow-prefix-disk
+    slice-aggregate-any-call
+    array-borrow-prefix-list
+    slice-aggregate-any-call-2
+    any-call-requires
+    returns)

@@ -1,0 +1,43 @@
+-- The part that is printed is a part of the disk.
+use mathlib.Core.Path.{sym}
+use native.Mathlib.Omega.{arith}
+use lib.Seq.{length-take-le}
+use Rattle.inspect_run.proofs.Laws.Shape.{shaped}
+use borrow.Author.Needs.{needs}
+use Rattle.inspect_run.proofs.show.put_disk.Statement.{statement}
+use Rattle.inspect_run.proofs.show.put_disk.Tie as tie
+
+slice-aggregate-put-field : tie.Need-slice-aggregate-put-field
+slice-aggregate-put-field c = search needs
+
+put-field-requires : tie.Need-put-field-requires
+put-field-requires c κs = search needs
+
+array-share-prefix-disk : tie.Need-array-share-prefix-disk
+array-share-prefix-disk c =
+    let s = c .before .before .before .before .before .before .before .before in omega (arith, shaped (s .args .lent) _ (s .good .1 .1 .0) .disk, s .pre .1 .disk)
+
+slice-aggregate-put-words : tie.Need-slice-aggregate-put-words
+slice-aggregate-put-words c =
+    let s = c .before .before .before .before .before .before .before .before .before in sym (length-take-le (s .args .lent .length) (s .args .lent .disk) (omega (arith, shaped (s .args .lent) _ (s .good .1 .1 .0) .disk, s .pre .1 .disk)))
+
+put-words-requires : tie.Need-put-words-requires
+put-words-requires c κs = search needs
+
+same-length : tie.Need-same-length
+same-length c = search needs
+
+returns : tie.Need-returns
+returns c = search needs
+
+pub put-disk-spec : {M : Type 1} → statement M
+put-disk-spec =
+    tie.close
+    (tie.spec
+    slice-aggregate-put-field
+    put-field-requires
+    array-share-prefix-disk
+    slice-aggregate-put-words
+    put-words-requires
+    same-length
+    returns)

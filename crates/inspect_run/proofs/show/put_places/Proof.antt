@@ -1,0 +1,43 @@
+-- The part that is printed is a part of the list.
+use mathlib.Core.Path.{sym}
+use native.Mathlib.Omega.{arith}
+use lib.Seq.{length-take-le}
+use Rattle.inspect_run.proofs.Laws.Shape.{shaped}
+use borrow.Author.Needs.{needs}
+use Rattle.inspect_run.proofs.show.put_places.Statement.{statement}
+use Rattle.inspect_run.proofs.show.put_places.Tie as tie
+
+slice-aggregate-put-field : tie.Need-slice-aggregate-put-field
+slice-aggregate-put-field c = search needs
+
+put-field-requires : tie.Need-put-field-requires
+put-field-requires c κs = search needs
+
+array-share-prefix-list : tie.Need-array-share-prefix-list
+array-share-prefix-list c =
+    let s = c .before .before .before .before .before .before .before .before in omega (arith, shaped (s .args .lent) _ (s .good .1 .1 .0) .list, s .pre .1 .list)
+
+slice-aggregate-put-list : tie.Need-slice-aggregate-put-list
+slice-aggregate-put-list c =
+    let s = c .before .before .before .before .before .before .before .before .before in sym (length-take-le (s .args .lent .places) (s .args .lent .list) (omega (arith, shaped (s .args .lent) _ (s .good .1 .1 .0) .list, s .pre .1 .list)))
+
+put-list-requires : tie.Need-put-list-requires
+put-list-requires c κs = search needs
+
+same-length : tie.Need-same-length
+same-length c = search needs
+
+returns : tie.Need-returns
+returns c = search needs
+
+pub put-places-spec : {M : Type 1} → statement M
+put-places-spec =
+    tie.close
+    (tie.spec
+    slice-aggregate-put-field
+    put-field-requires
+    array-share-prefix-list
+    slice-aggregate-put-list
+    put-list-requires
+    same-length
+    returns)

@@ -1,0 +1,59 @@
+-- The measure is the slots left.
+use Prim.Native.Nat.{_≤_, _-_}
+use Rattle.printing.specs.Waits.{Waits}
+use borrow.Author.Needs.{needs}
+use Rattle.inspect_run.proofs.show.put_slots.Statement.{statement}
+use Rattle.inspect_run.proofs.show.put_slots.Tie as tie
+
+abbrev Inv-loop : tie.InvT-loop
+Inv-loop out₀ at memory end₀ s₀ out end s = (s ≤ 8) × Waits out end
+
+abbrev μ-loop : tie.MeasureT-loop
+μ-loop out₀ at memory end₀ s₀ out end s = 8 - s
+
+loop-holds : tie.Need-loop-holds Inv-loop μ-loop
+loop-holds c = search needs
+
+mul-own : tie.Need-mul-own Inv-loop μ-loop
+mul-own c = search needs
+
+element-copy-out-own : tie.Need-element-copy-out-own Inv-loop μ-loop
+element-copy-out-own c = search needs
+
+put-state-requires : tie.Need-put-state-requires Inv-loop μ-loop
+put-state-requires c κs = search needs
+
+put-words-requires : tie.Need-put-words-requires Inv-loop μ-loop
+put-words-requires c κs = search needs
+
+add-s : tie.Need-add-s Inv-loop μ-loop
+add-s c = search needs
+
+loop-less : tie.Need-loop-less Inv-loop μ-loop
+loop-less c = search needs
+
+loop-again : tie.Need-loop-again Inv-loop μ-loop
+loop-again c = search needs
+
+same-length : tie.Need-same-length Inv-loop μ-loop
+same-length c = search needs
+
+returns : tie.Need-returns Inv-loop μ-loop
+returns c = search needs
+
+pub put-slots-spec : {M : Type 1} → statement M
+put-slots-spec =
+    tie.close
+    (tie.spec
+    Inv-loop
+    μ-loop
+    loop-holds
+    mul-own
+    element-copy-out-own
+    put-state-requires
+    put-words-requires
+    add-s
+    loop-less
+    loop-again
+    same-length
+    returns)

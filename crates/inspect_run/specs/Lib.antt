@@ -1,0 +1,3 @@
+-- Bounds of the program's own counters.
+pub mod Sized
+pub mod Reads

@@ -1,0 +1,90 @@
+// The call that a bench line asks for.
+ghost use Rattle.inspect_run.specs.Sized.{Sized};
+use crate::lent::Lent;
+use crate::lent::Step;
+use allocator::allocate::allocate;
+use allocator::commit::commit;
+use allocator::deallocate::deallocate;
+use allocator::format::format;
+use allocator::open::open;
+use allocator::precommit::precommit;
+use allocator::rollback::rollback;
+use allocator::start::start;
+use allocator::status::status;
+use allocator::store::store;
+use bench_step::next::Next;
+use bench_step::next::changed;
+use bench_step::next::granted;
+use bench_step::next::measured;
+use bench_step::next::stored;
+use model::line::Line;
+use model::line::Op;
+use model::memory::Memory;
+
+// Format keeps the memory.
+fn format_call(memory: Memory, disk: &mut [u32], n: u32) -> Next {
+    let answer = format(disk, n);
+    Next {
+        memory,
+        answer: answer.number(),
+        value: 0,
+    }
+}
+
+// A crash puts the memory of zeros back.
+fn crash_call() -> Next {
+    Next {
+        memory: Memory::zero(),
+        answer: 0,
+        value: 0,
+    }
+}
+
+// Any call. The memory that an open gives takes the place of the old one, when refused too.
+fn any_call(op: Op, slot: u32, n: u32, memory: Memory, disk: &mut [u32], list: &mut [u32]) -> Next {
+    match op {
+        Op::Format => format_call(memory, disk, n),
+        Op::Open => stored(open(disk)),
+        Op::Start => changed(start(memory, slot)),
+        Op::Allocate => granted(allocate(memory, slot, n, list)),
+        Op::Deallocate => changed(deallocate(memory, slot, n)),
+        Op::Precommit => changed(precommit(memory, slot)),
+        Op::Commit => stored(commit(memory, slot)),
+        Op::Rollback => changed(rollback(memory, slot)),
+        Op::Store => stored(store(memory, disk)),
+        Op::Status => measured(status(memory)),
+        Op::Crash => crash_call(),
+    }
+}
+
+// The call of a line, on the words that are lent. The list keeps what an allocate wrote.
+pub(crate) fn call(line: Line, lent: Lent) -> Step
+    requires { ⌜ Sized lent ⌝ }
+    ensures { λ r. ⌜ Sized (r .lent) ⌝ }
+{
+    let op = line.op;
+    let length = lent.length;
+    let places = lent.places;
+    let mut disk = lent.disk;
+    let mut list = lent.list;
+    let next = any_call(
+        op,
+        line.slot,
+        line.n,
+        lent.memory,
+        &mut disk[..length],
+        &mut list[..places],
+    );
+    let memory = next.memory;
+    Step {
+        lent: Lent {
+            memory,
+            disk,
+            length,
+            list,
+            places,
+        },
+        answer: next.answer,
+        value: next.value,
+    }
+}

@@ -1,0 +1,59 @@
+// The test program `inspect` (docs/TEST-LINES.md): bench lines, and further lines that damage what the calls are lent.
+// It is a library so that several programs can be it, each with its own stored input and output.
+mod alter;
+mod call;
+mod damage;
+mod further;
+mod lent;
+mod line;
+mod lines;
+mod numbers;
+mod show;
+
+ghost use mathlib.Core.Path.{_≡_};
+ghost use lib.ListN.{length};
+ghost use Rattle.printing.specs.Waits.{Waits};
+ghost use Rattle.inspect_run.specs.Reads.{kept};
+use lent::Lent;
+use line::answer;
+use lines::Reader;
+use lines::next_line;
+use printing::flush;
+
+// The most lines that are read.
+const MAX_LINES: u32 = 60000;
+
+// Answers the lines of the input, and returns the end of what waits to be written.
+fn answer_all(input: &mut [u8], line: &mut [u8], out: &mut [u8], at: usize) -> usize
+    requires { ⌜ length (now line) ≡ kept ⌝ }
+    requires { ⌜ Waits (now out) at ⌝ }
+    ensures { λ r. ⌜ Waits (now (out .exit)) r ⌝ }
+{
+    let mut lent = Lent::new();
+    let mut reader = Reader::new();
+    let mut end = at;
+    let mut number = 1;
+    while number <= MAX_LINES {
+        let read = next_line(input, reader, line);
+        reader = read;
+        if !reader.found {
+            return end;
+        }
+        let len = reader.len;
+        let printed = answer(&line[..len], number, lent, out, end);
+        let next = printed.lent;
+        lent = next;
+        end = printed.at;
+        number += 1;
+    }
+    end
+}
+
+// The whole program.
+pub fn main_loop() {
+    let mut input = [0u8; 65536];
+    let mut line = [0u8; 65];
+    let mut out = [0u8; 65536];
+    let end = answer_all(&mut input, &mut line, &mut out, 0);
+    flush(&out, end);
+}

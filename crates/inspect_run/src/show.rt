@@ -1,0 +1,185 @@
+// What `show` prints: all that is lent, words that are 0 left out of bitmaps and disk.
+ghost use Rattle.printing.specs.Waits.{Waits};
+ghost use Rattle.inspect_run.specs.Sized.{Sized};
+use crate::lent::Lent;
+use bitmap::Bitmap;
+use model::memory::Memory;
+use model::memory::Pending;
+use model::memory::SlotState;
+use printing::end_line;
+use printing::put;
+use printing::put_field;
+
+// A word with its index, unless it is 0.
+fn put_word(out: &mut [u8], at: usize, index: usize, word: u32) -> usize
+    requires { ⌜ Waits (now out) at ⌝ }
+    ensures { λ r. ⌜ Waits (now (out .exit)) r ⌝ }
+{
+    if word == 0 {
+        return at;
+    }
+    let next = put_field(out, at, b" ", index as u64);
+    put_field(out, next, b":", word as u64)
+}
+
+// The words that aren't 0, and the line's end.
+fn put_words(out: &mut [u8], at: usize, words: &[u32]) -> usize
+    requires { ⌜ Waits (now out) at ⌝ }
+    ensures { λ r. ⌜ Waits (now (out .exit)) r ⌝ }
+{
+    let mut end = at;
+    let mut i = 0;
+    while i < words.len() {
+        end = put_word(out, end, i, words[i]);
+        i += 1;
+    }
+    end_line(out, end)
+}
+
+// A block behind a space.
+fn put_block(out: &mut [u8], at: usize, block: u32) -> usize
+    requires { ⌜ Waits (now out) at ⌝ }
+    ensures { λ r. ⌜ Waits (now (out .exit)) r ⌝ }
+{
+    put_field(out, at, b" ", block as u64)
+}
+
+// All of a list, and the line's end.
+fn put_list(out: &mut [u8], at: usize, list: &[u32]) -> usize
+    requires { ⌜ Waits (now out) at ⌝ }
+    ensures { λ r. ⌜ Waits (now (out .exit)) r ⌝ }
+{
+    let mut end = at;
+    let mut i = 0;
+    while i < list.len() {
+        end = put_block(out, end, list[i]);
+        i += 1;
+    }
+    end_line(out, end)
+}
+
+// The pending work's numbers.
+fn put_work(out: &mut [u8], at: usize, kind: u32, slot: u32, done: u32, due: u32) -> usize
+    requires { ⌜ Waits (now out) at ⌝ }
+    ensures { λ r. ⌜ Waits (now (out .exit)) r ⌝ }
+{
+    let after_kind = put_field(out, at, b"pending=", kind as u64);
+    let after_slot = put_field(out, after_kind, b" ", slot as u64);
+    let after_done = put_field(out, after_slot, b" ", done as u64);
+    let after_due = put_field(out, after_done, b" ", due as u64);
+    end_line(out, after_due)
+}
+
+// The pending work.
+fn put_pending(out: &mut [u8], at: usize, pending: Pending) -> usize
+    requires { ⌜ Waits (now out) at ⌝ }
+    ensures { λ r. ⌜ Waits (now (out .exit)) r ⌝ }
+{
+    match pending {
+        Pending::Nothing => put_work(out, at, 0, 0, 0, 0),
+        Pending::Commit { slot, done, due } => put_work(out, at, 1, slot, done, due),
+        Pending::Recovery { done, due } => put_work(out, at, 2, 0, done, due),
+    }
+}
+
+// The number of a slot's state.
+fn state_code(state: SlotState) -> u32 {
+    match state {
+        SlotState::Idle => 0,
+        SlotState::Open => 1,
+        SlotState::Precommitted => 2,
+    }
+}
+
+// A slot's number and its state.
+fn put_state(out: &mut [u8], at: usize, s: usize, state: SlotState) -> usize
+    requires { ⌜ Waits (now out) at ⌝ }
+    ensures { λ r. ⌜ Waits (now (out .exit)) r ⌝ }
+{
+    let next = put_field(out, at, b"slot ", s as u64);
+    put_field(out, next, b" state=", state_code(state) as u64)
+}
+
+// Each slot on a line.
+fn put_slots(out: &mut [u8], at: usize, memory: Memory) -> usize
+    requires { ⌜ Waits (now out) at ⌝ }
+    ensures { λ r. ⌜ Waits (now (out .exit)) r ⌝ }
+{
+    let mut end = at;
+    let mut s = 0;
+    while s < Bitmap::SLOTS {
+        let own = memory.slots[s];
+        let name = put_state(out, end, s, own.state);
+        end = put_words(out, name, &own.tam.words);
+        s += 1;
+    }
+    end
+}
+
+// The block count, and the line's end.
+fn put_blocks(out: &mut [u8], at: usize, blocks: u32) -> usize
+    requires { ⌜ Waits (now out) at ⌝ }
+    ensures { λ r. ⌜ Waits (now (out .exit)) r ⌝ }
+{
+    let next = put_field(out, at, b"blocks=", blocks as u64);
+    end_line(out, next)
+}
+
+// A bitmap with its name.
+fn put_bitmap(out: &mut [u8], at: usize, name: &[u8], words: &[u32]) -> usize
+    requires { ⌜ Waits (now out) at ⌝ }
+    ensures { λ r. ⌜ Waits (now (out .exit)) r ⌝ }
+{
+    let next = put(out, at, name);
+    put_words(out, next, words)
+}
+
+// The memory.
+fn put_memory(out: &mut [u8], at: usize, memory: Memory) -> usize
+    requires { ⌜ Waits (now out) at ⌝ }
+    ensures { λ r. ⌜ Waits (now (out .exit)) r ⌝ }
+{
+    let pending = memory.pending;
+    let sam = memory.sam;
+    let com = memory.com;
+    let after_blocks = put_blocks(out, at, memory.blocks);
+    let after_pending = put_pending(out, after_blocks, pending);
+    let after_sam = put_bitmap(out, after_pending, b"sam", &sam.words);
+    let after_com = put_bitmap(out, after_sam, b"com", &com.words);
+    put_slots(out, after_com, memory)
+}
+
+// The disk.
+fn put_disk(out: &mut [u8], at: usize, lent: Lent) -> usize
+    requires { ⌜ Waits (now out) at ⌝ }
+    requires { ⌜ Sized lent ⌝ }
+    ensures { λ r. ⌜ Waits (now (out .exit)) r ⌝ }
+{
+    let length = lent.length;
+    let disk = lent.disk;
+    let next = put_field(out, at, b"disk length=", length as u64);
+    put_words(out, next, &disk[..length])
+}
+
+// The list.
+fn put_places(out: &mut [u8], at: usize, lent: Lent) -> usize
+    requires { ⌜ Waits (now out) at ⌝ }
+    requires { ⌜ Sized lent ⌝ }
+    ensures { λ r. ⌜ Waits (now (out .exit)) r ⌝ }
+{
+    let places = lent.places;
+    let list = lent.list;
+    let next = put_field(out, at, b"list length=", places as u64);
+    put_list(out, next, &list[..places])
+}
+
+// All of it.
+pub(crate) fn put_lent(out: &mut [u8], at: usize, lent: Lent) -> usize
+    requires { ⌜ Waits (now out) at ⌝ }
+    requires { ⌜ Sized lent ⌝ }
+    ensures { λ r. ⌜ Waits (now (out .exit)) r ⌝ }
+{
+    let after_memory = put_memory(out, at, lent.memory);
+    let after_disk = put_disk(out, after_memory, lent);
+    put_places(out, after_disk, lent)
+}

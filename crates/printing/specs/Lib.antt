@@ -1,0 +1,2 @@
+-- Where output stands.
+pub mod Waits
