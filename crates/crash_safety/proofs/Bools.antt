@@ -24,10 +24,3 @@ xor-same true true e = refl
 xor-same true false e = e
 xor-same false true e = sym e
 xor-same false false e = refl
-
-pub same-of-xor : (a b : Bool) → xor a b ≡ false → a ≡ b
-unfolding xor
-same-of-xor true true e = refl
-same-of-xor true false e = e
-same-of-xor false true e = sym e
-same-of-xor false false e = refl

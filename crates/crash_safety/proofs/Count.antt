@@ -12,7 +12,8 @@ use borrow.Author.Tests.{eqb-true, eq-eqb, ne-eqb}
 use Rattle.bitmap.specs.Bits.{bit, isSet, IsBitmap}
 use Rattle.bitmap.specs.Blocks.{member}
 use Rattle.bitmap.proofs.Laws.Bits.{word-of-bits}
-use Rattle.crash_safety.proofs.Bools.{or-true, xor-same, same-of-xor}
+use Rattle.model.proofs.Laws.Commit.{same-or-not}
+use Rattle.crash_safety.proofs.Bools.{or-true, xor-same}
 use Rattle.model.specs.Stores.{changesFrom, changes}
 use Rattle.model.specs.Ledger.{hasWord, wordsFrom}
 
@@ -71,7 +72,7 @@ module _ (sam new blocks : List ℕ)
 
           same : (i : ℕ) → i < 32 → bit sam (32 * k + i) ≡ bit new (32 * k + i)
           same i h =
-              same-of-xor (bit sam (32 * k + i)) (bit new (32 * k + i))
+              same-or-not (bit sam (32 * k + i)) (bit new (32 * k + i))
               (sym (changed (32 * k + i)) ∙ none-there (32 * k + i) (omega arith) (member (32 * k + i) blocks) refl)
 
   count-from : (n k : ℕ) → k + n ≡ length sam → k + n ≡ length new → wordsFrom k n blocks ≡ length (changesFrom k (drop k sam) (drop k new))

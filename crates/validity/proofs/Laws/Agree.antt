@@ -24,7 +24,7 @@ use Rattle.model.specs.Valid.{touches, touchesAgree}
 use Rattle.validity.specs.Touches.{wordAgrees, wordsAgree}
 use Rattle.model.proofs.Laws.Shape.{Shaped}
 use Rattle.validity.proofs.Laws.Slots.{both, and-both}
-use Rattle.validity.proofs.Laws.Parts.{ValidParts, noBits-empty}
+use Rattle.validity.proofs.Laws.Parts.{PartsBySlot, noBits-empty}
 use Rattle.validity.proofs.Laws.Touches.{Counted}
 
 -- ---- words and bits
@@ -173,7 +173,7 @@ module _ (memory : Memory) (some twice : List ℕ) (shape : Shaped memory) (coun
           (untouched memory b (memory .slots) (none b l) s i))
 
   -- the words of a valid memory agree
-  pub valid-words : ValidParts memory → wordsAgree some twice (memory .sam .words) (memory .com .words) ≡ true
+  pub valid-words : PartsBySlot memory → wordsAgree some twice (memory .sam .words) (memory .com .words) ≡ true
   unfolding touchesAgree touched
   valid-words parts =
       bits-words some twice (memory .sam .words) (memory .com .words) (counted .someIs) (counted .twiceIs) (shape .sam) (shape .com)

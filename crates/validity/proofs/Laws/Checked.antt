@@ -17,7 +17,7 @@ use Rattle.validity.specs.Touches.{Taken, wordsAgree}
 use Rattle.validity.specs.Pending.{commitFits}
 use Rattle.model.proofs.Laws.Shape.{Shaped}
 use Rattle.validity.proofs.Laws.Slots.{bool-ext, both, not-true-false}
-use Rattle.validity.proofs.Laws.Parts.{ValidParts, slots-each, range-parts, valid-parts, parts-valid}
+use Rattle.validity.proofs.Laws.Parts.{PartsBySlot, slots-each, range-parts, valid-parts, parts-valid}
 use Rattle.validity.proofs.Laws.Touches.{Counted}
 use Rattle.validity.proofs.Laws.Agree.{words-agree, valid-words}
 use Rattle.validity.proofs.Laws.Loop.{Passed, passed-all, taken-wrong}
@@ -81,7 +81,7 @@ module _ (memory : Memory) (some twice : List ℕ) (shape : Shaped memory) (volu
   bitmaps : (touchesAgree memory ≡ true) × ((s : ℕ) → noBitsFrom (memory .blocks) (slotAt memory s .tam .words) ≡ true)
   bitmaps = words-agree memory some twice shape (passed-all memory some twice shape passed) samNone comNone idle agree
 
-  checked-parts : pendingValid memory (memory .pending) ≡ true → ValidParts memory
+  checked-parts : pendingValid memory (memory .pending) ≡ true → PartsBySlot memory
   checked-parts h =
       record {
         least = checked-range .0;

@@ -19,7 +19,7 @@ use Rattle.model.specs.Valid.{sameWords, pendingValid, valid}
 use Rattle.validity.specs.Touches.{Joined, Taken, wordsAgree}
 use Rattle.model.proofs.Laws.Shape.{Shaped}
 use Rattle.validity.proofs.Laws.Slots.{bool-ext, sameWords-eq, eq-sameWords}
-use Rattle.validity.proofs.Laws.Parts.{ValidParts, valid-parts, parts-valid}
+use Rattle.validity.proofs.Laws.Parts.{PartsBySlot, valid-parts, parts-valid}
 use Rattle.validity.proofs.Laws.Touches.{Counted, counted-none, counted-idle, counted-active}
 use Rattle.validity.proofs.Laws.Agree.{words-agree, valid-words}
 
@@ -64,7 +64,7 @@ taken-same some twice sam some' twice' e f taken = rw (← e, ← f) taken
 -- a slot taken in and found wrong is in no valid memory
 pub taken-wrong : (memory : Memory) (s : ℕ) (some twice some' twice' : List ℕ)
     → Taken (slotAt memory s .state) some twice (memory .sam .words) (slotAt memory s .tam .words) false some' twice'
-    → ValidParts memory → ⊥
+    → PartsBySlot memory → ⊥
 taken-wrong memory s some twice some' twice' taken parts = go (isActive (slotAt memory s .state)) refl
   where
     go : (a : Bool) → isActive (slotAt memory s .state) ≡ a → ⊥

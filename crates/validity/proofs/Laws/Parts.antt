@@ -1,4 +1,4 @@
--- What valid memory has, part by part: from `valid` to its parts, and back.
+-- What valid memory has, part by part and slot by slot: from `valid` to its parts, by the model's own law, and back.
 use Prim.Native.Nat.{ℕ, zero, suc, _-_, _^_, _*_, _≤_, _<_}
 use native.Mathlib.Omega.{arith}
 use mathlib.Core.Path.{_≡_, refl, sym, ap, ap₂, _∙_}
@@ -16,9 +16,10 @@ use Rattle.model.specs.declared.memory.Slot.{Slot}
 use Rattle.model.specs.declared.memory.Memory.{Memory}
 use Rattle.model.specs.Memory.{slotAt, idleSlot, isActive, emptyBitmap}
 use Rattle.model.specs.Valid.{blocksInRange, sameWords, allSlots, slotValid, touchesAgree, pendingValid, valid}
+use Rattle.model.proofs.Laws.Valid.{valid-parts as model-parts}
 use Rattle.validity.proofs.Laws.Slots.{both, and-both, allSlots-at, allSlots-all, sameWords-eq, eq-sameWords}
 
-pub record ValidParts (memory : Memory) : Type 0 where
+pub record PartsBySlot (memory : Memory) : Type 0 where
   pub least : 1 ≤ memory .blocks
   pub most : memory .blocks ≤ maxBlocks
   pub samNoBits : noBitsFrom (memory .blocks) (memory .sam .words) ≡ true
@@ -92,28 +93,22 @@ slots-parts m slots h =
 
 -- ---- the memory
 
-pub valid-parts : (memory : Memory) → valid memory ≡ true → ValidParts memory
-unfolding valid
+pub valid-parts : (memory : Memory) → valid memory ≡ true → PartsBySlot memory
 valid-parts memory h =
-    let f = both _ _ h in
-    let e = both _ _ (f .0) in
-    let d = both _ _ (e .0) in
-    let c = both _ _ (d .0) in
-    let b = both _ _ (c .0) in
-    let range = range-parts (memory .blocks) (b .0) in
-    let slots = slots-parts (memory .blocks) (memory .slots) (d .1) in
+    let p = model-parts memory h in
+    let slots = slots-parts (memory .blocks) (memory .slots) (p .slots-valid) in
     record {
-      least = range .0;
-      most = range .1;
-      samNoBits = b .1;
-      comNoBits = c .1;
+      least = p .some-blocks;
+      most = p .few-blocks;
+      samNoBits = p .sam-below;
+      comNoBits = p .com-below;
       tamNoBits = λ s. slot-parts (memory .blocks) (slotAt memory s) (slots s) .0;
       idleEmpty = λ s. slot-parts (memory .blocks) (slotAt memory s) (slots s) .1;
-      agree = e .1;
-      pending = f .1;
+      agree = p .touches-agree;
+      pending = p .pending-valid;
     }
 
-pub parts-valid : (memory : Memory) → ValidParts memory → valid memory ≡ true
+pub parts-valid : (memory : Memory) → PartsBySlot memory → valid memory ≡ true
 unfolding valid blocksInRange
 parts-valid memory p =
     and-both _ _
