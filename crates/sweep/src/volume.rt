@@ -35,8 +35,8 @@ pub(crate) fn longest_commit(disk: &mut [u32]) -> Stored {
     let opened = open(disk);
     let started = start(opened.memory, SLOT);
     let taken = take_all(started.memory);
-    let sealed = precommit(taken, SLOT);
-    commit(sealed.memory, SLOT)
+    let precommitted = precommit(taken, SLOT);
+    commit(precommitted.memory, SLOT)
 }
 
 // Makes so many stores.
