@@ -11,5 +11,5 @@ pub fn allocate(memory: Memory, slot: u32, count: u32, list: &mut [u32]) -> Gran
     ensures leaves { λ r. ⌜ r .memory ≡ allocateMemory memory slot count (now (list .entry)) ⌝ }
     ensures lists { λ _. ⌜ now (list .exit) ≡ allocateList memory slot count (now (list .entry)) ⌝ }
 {
-    transactions::allocate::allocate(valid(memory), memory, slot, count, list)
+    touching::allocate::allocate(valid(memory), memory, slot, count, list)
 }

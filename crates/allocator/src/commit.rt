@@ -10,5 +10,5 @@ pub fn commit(memory: Memory, slot: u32) -> Stored
     ensures answers { λ r. ⌜ r .answer ≡ commitAnswer memory slot ⌝ }
     ensures leaves { λ r. ⌜ r .memory ≡ commitMemory memory slot ⌝ }
 {
-    storing::commit::commit(valid(memory), memory, slot)
+    committing::commit::commit(valid(memory), memory, slot)
 }

@@ -10,5 +10,5 @@ pub fn deallocate(memory: Memory, slot: u32, block: u32) -> Changed
     ensures answers { λ r. ⌜ r .answer ≡ deallocateAnswer memory slot block ⌝ }
     ensures leaves { λ r. ⌜ r .memory ≡ deallocateMemory memory slot block ⌝ }
 {
-    transactions::deallocate::deallocate(valid(memory), memory, slot, block)
+    touching::deallocate::deallocate(valid(memory), memory, slot, block)
 }

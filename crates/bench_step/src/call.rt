@@ -60,7 +60,7 @@ fn allocate_call(sound: bool, memory: Memory, slot: u32, n: u32) -> Next
     ensures { λ r. ⌜ ((disk : List ℕ) → withDisk r disk ≡ benchCall Op.Allocate slot n memory disk) ⌝ }
 {
     let mut list = [0u32; 64];
-    granted(transactions::allocate::allocate(sound, memory, slot, n, &mut list))
+    granted(touching::allocate::allocate(sound, memory, slot, n, &mut list))
 }
 
 // A crash puts the memory of zeros back.
@@ -84,9 +84,9 @@ pub fn call(op: Op, slot: u32, n: u32, memory: Memory, disk: &mut [u32]) -> Next
         Op::Open => open_call(memory, disk),
         Op::Start => changed(transactions::start::start(sound, memory, slot)),
         Op::Allocate => allocate_call(sound, memory, slot, n),
-        Op::Deallocate => changed(transactions::deallocate::deallocate(sound, memory, slot, n)),
+        Op::Deallocate => changed(touching::deallocate::deallocate(sound, memory, slot, n)),
         Op::Precommit => changed(transactions::precommit::precommit(sound, memory, slot)),
-        Op::Commit => stored(storing::commit::commit(sound, memory, slot)),
+        Op::Commit => stored(committing::commit::commit(sound, memory, slot)),
         Op::Rollback => changed(transactions::rollback::rollback(sound, memory, slot)),
         Op::Store => stored(storing::store::store(sound, memory, disk)),
         Op::Status => measured(transactions::status::status(sound, memory)),

@@ -4,7 +4,3 @@ pub mod Overwrite
 pub mod Block
 pub mod Combine
 pub mod Compare
-pub mod Count
-pub mod Available
-pub mod Scan
-pub mod Take

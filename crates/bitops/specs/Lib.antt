@@ -1,5 +1,3 @@
 -- What the code on the words of bitmaps does, word by word.
 pub mod Block
 pub mod Combine
-pub mod Available
-pub mod Take

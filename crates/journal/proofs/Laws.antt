@@ -1,9 +1,5 @@
 -- What the loops over a disk's words check and write, and the model's definitions.
 pub mod Memory
-pub mod Tests
-pub mod Log
-pub mod Sam
-pub mod Replay
 pub mod Rewritten
 pub mod MendedWords
 pub mod LogWords

@@ -10,9 +10,9 @@ use crate::commit::length_after;
 use crate::commit::mended_after;
 use crate::head::head_matches;
 use crate::recovery::recovery_matches;
-use crate::sam::bitmap;
 use crate::written::words_match;
 use bitops::compare::same;
+use disk_log::sam::bitmap;
 use model::memory::Memory;
 use model::memory::Pending;
 

@@ -9,13 +9,13 @@ ghost use Rattle.model.specs.Sizes.{diskWords, logAt};
 ghost use Rattle.model.specs.Stores.{changes, commitStores, mendStores};
 ghost use Rattle.model.specs.Disk.{diskBlocks, logLength, logEntries, logValid};
 ghost use Rattle.journal.specs.Next.{IsChange, IsNext};
-use crate::layout::BITMAP_AT;
-use crate::layout::LENGTH_AT;
-use crate::layout::LOG_AT;
-use crate::log::contents;
-use crate::log::number;
 use crate::written::differs;
 use bitmap::Bitmap;
+use disk_log::layout::BITMAP_AT;
+use disk_log::layout::LENGTH_AT;
+use disk_log::layout::LOG_AT;
+use disk_log::log::contents;
+use disk_log::log::number;
 
 // One word of the disk and its new contents.
 pub struct Store {

@@ -6,10 +6,10 @@ ghost use Rattle.bitmap.specs.Sizes.{bitmapWords};
 ghost use Rattle.bitmap.specs.Bits.{IsBitmap};
 ghost use Rattle.model.specs.Sizes.{diskWords};
 ghost use Rattle.journal.specs.Matching.{differs, mendedWord, entryWritten, wordMatches, wordsMatch};
-use crate::layout::BITMAP_AT;
-use crate::log::contents;
-use crate::log::number;
 use bitmap::Bitmap;
+use disk_log::layout::BITMAP_AT;
+use disk_log::log::contents;
+use disk_log::log::number;
 
 // 1 where two words differ, and 0 where they are the same.
 pub fn differs(old: u32, new: u32) -> usize

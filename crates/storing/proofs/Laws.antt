@@ -1,5 +1,2 @@
 -- Each call: what its causes come to, one after the other, and its effect.
-pub mod Slots
-pub mod Committed
-pub mod Commit
 pub mod Store

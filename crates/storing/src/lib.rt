@@ -1,5 +1,3 @@
-// Commit and store: the calls that lead to words of the disk. Each takes beside the memory whether it is valid, as those of
-// the crate transactions do.
-pub mod commit;
-mod committed;
+// Store: the next word of the disk. It is told beside the memory whether it is valid, as the calls of the crate transactions
+// are.
 pub mod store;

@@ -1,6 +1,4 @@
 -- Each call: what its causes come to, one after the other, and its effect.
 pub mod Start
-pub mod Allocate
-pub mod Deallocate
 pub mod Rollback
 pub mod Status

@@ -1,7 +1,5 @@
-// The calls inside a transaction, and status. Each takes beside the memory whether it is valid, tested by its caller. The
+// Start, precommit, rollback and status. Each takes beside the memory whether it is valid, tested by its caller. The
 // crate allocator has the same calls without that.
-pub mod allocate;
-pub mod deallocate;
 pub mod precommit;
 pub mod rollback;
 pub mod start;

@@ -2,8 +2,8 @@
 ghost use mathlib.Core.Path.{_≡_};
 ghost use Rattle.model.specs.Valid.{valid};
 ghost use Rattle.model.specs.Calls.Status.{activeSlots, statusAnswer};
+use available::count::count_ones;
 use bitmap::Bitmap;
-use bitops::count::count_ones;
 use model::answer::Counts;
 use model::answer::Measured;
 use model::answer::StatusAnswer;

@@ -17,7 +17,7 @@ use Rattle.model.specs.Disk.{diskBitmap, diskMatches}
 use Rattle.model.proofs.Laws.Writes.{words-same}
 use Rattle.model.proofs.Laws.Entries.{changes-length}
 use Rattle.journal.specs.Matching.{headIs, wordsMatch, lengthAfter, mendedAfter}
-use Rattle.journal.proofs.Laws.Tests.{and-left, and-right, and-none}
+use Rattle.disk_log.proofs.Laws.Tests.{and-left, and-right, and-none}
 use Rattle.model.proofs.Laws.Shape.{Shaped}
 use Rattle.journal.proofs.Laws.Memory.{CommitInHand}
 use Rattle.journal.proofs.Laws.Matching.{disk-same, commit-matches}

@@ -15,7 +15,7 @@ use Rattle.model.specs.Valid.{sameWords}
 use Rattle.model.proofs.Laws.Writes.{words-same}
 use Rattle.model.proofs.Laws.Entries.{logStores-from, writes-shift, take-map, shift}
 use Rattle.journal.specs.Matching.{entryWritten}
-use Rattle.journal.proofs.Laws.Tests.{and-right, and-assoc, leb-same}
+use Rattle.disk_log.proofs.Laws.Tests.{and-right, and-assoc, leb-same}
 
 -- whether the words of the entries from i on are as the stores done leave them
 unfoldable pub logMatches : List ℕ → ℕ → ℕ → List Store → Bool

@@ -19,7 +19,7 @@ use Rattle.model.proofs.Laws.Entries.{length-logStores, changes-length}
 use Rattle.model.proofs.Laws.DiskParts.{disk-parts, disk-bitmap-length, disk-log-length}
 use Rattle.model.proofs.Laws.CommitLog.{CommitFrom, changes-from, commitDisk, commit-before, commit-after}
 use Rattle.journal.specs.Matching.{entryWritten, mendedWord, wordMatches, wordsMatch, lengthAfter, mendedAfter}
-use Rattle.journal.proofs.Laws.Tests.{and-assoc, and-exchange, same-append}
+use Rattle.disk_log.proofs.Laws.Tests.{and-assoc, and-exchange, same-append}
 use Rattle.journal.proofs.Laws.MendedWords.{mend, mended-same, mended-from, mend-changes}
 use Rattle.journal.proofs.Laws.LogWords.{logMatches, log-matches}
 

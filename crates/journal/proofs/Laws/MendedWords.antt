@@ -12,7 +12,7 @@ use lib.Dec.{ltb, eqb}
 use borrow.Author.Tests.{eqb-true, lt-ltb}
 use Rattle.model.specs.Stores.{Store, _≔_, writes, changesFrom, changes}
 use Rattle.journal.specs.Matching.{differs, mendedWord}
-use Rattle.journal.proofs.Laws.Tests.{ltb-same}
+use Rattle.disk_log.proofs.Laws.Tests.{ltb-same}
 
 -- the old words with the first of the changed ones new
 unfoldable pub mend : ℕ → List ℕ → List ℕ → List ℕ

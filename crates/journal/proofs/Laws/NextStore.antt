@@ -13,8 +13,8 @@ use Rattle.model.specs.Stores.{Store, _≔_, logStores, onDisk, mendStores, com
 use Rattle.model.specs.Disk.{diskBlocks, logLength, logEntries, logValid}
 use Rattle.model.proofs.Laws.Entries.{length-logStores}
 use Rattle.journal.specs.Next.{IsNext}
-use Rattle.journal.proofs.Laws.Log.{entry-at, entries-count}
-use Rattle.journal.proofs.Laws.Replay.{entries-few, place-below}
+use Rattle.disk_log.proofs.Laws.Log.{entry-at, entries-count}
+use Rattle.disk_log.proofs.Laws.Replay.{entries-few, place-below}
 
 -- ---- the first store behind some of a list
 

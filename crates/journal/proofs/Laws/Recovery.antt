@@ -16,9 +16,9 @@ use Rattle.model.specs.Stores.{writes}
 use Rattle.model.specs.Valid.{sameWords}
 use Rattle.model.specs.Disk.{diskBlocks, diskBitmap, logLength, logEntries, logValid, entriesAgree, recoveryMatches, diskMatches}
 use Rattle.model.proofs.Laws.Writes.{and-first, and-second}
-use Rattle.journal.proofs.Laws.Tests.{and-left, and-none, eqb-same}
+use Rattle.disk_log.proofs.Laws.Tests.{and-left, and-none, eqb-same}
 use Rattle.journal.specs.Matching.{headIs, logAgrees}
-use Rattle.journal.proofs.Laws.Log.{entry-at, entries-count}
+use Rattle.disk_log.proofs.Laws.Log.{entry-at, entries-count}
 
 -- ---- the entries compared with a bitmap
 

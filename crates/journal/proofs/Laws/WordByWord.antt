@@ -10,7 +10,7 @@ use lib.Seq.{drop-cons}
 use lib.Dec.{eqb}
 use Rattle.bitmap.specs.Sizes.{bitmapWords}
 use Rattle.journal.specs.Matching.{differs, wordMatches, wordsMatch}
-use Rattle.journal.proofs.Laws.Tests.{and-left, and-none}
+use Rattle.disk_log.proofs.Laws.Tests.{and-left, and-none}
 
 -- a difference counts at most one
 pub differs-few : (old new : ℕ) → differs old new ≤ 1

@@ -7,9 +7,9 @@ use denote.Ref.{now}
 use borrow.Author.Tests.{not-true, not-false}
 use borrow.Author.Needs.{needs}
 use Rattle.model.specs.Valid.{sameWords}
-use Rattle.journal.proofs.Laws.Tests.{and-left, and-none}
+use Rattle.disk_log.proofs.Laws.Tests.{and-left, and-none}
 use Rattle.model.proofs.Laws.Shape.{shaped}
-use Rattle.journal.proofs.Laws.Sam.{bitmap-is}
+use Rattle.disk_log.proofs.Laws.Sam.{bitmap-is}
 use Rattle.journal.proofs.Laws.DiskMatches.{settled-matches}
 use Rattle.journal.proofs.matching.settled_matches.Statement.{statement}
 use Rattle.journal.proofs.matching.settled_matches.Tie as tie

@@ -2,7 +2,7 @@
 use native.Mathlib.Omega.{arith}
 use denote.Ref.{now}
 use borrow.Author.Needs.{needs}
-use Rattle.journal.proofs.Laws.Replay.{entries-few}
+use Rattle.disk_log.proofs.Laws.Replay.{entries-few}
 use Rattle.journal.proofs.Laws.NextStore.{recovery-word, recovery-last}
 use Rattle.journal.proofs.next.recovery_next.Statement.{statement}
 use Rattle.journal.proofs.next.recovery_next.Tie as tie

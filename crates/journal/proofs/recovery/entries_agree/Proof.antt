@@ -5,7 +5,7 @@ use native.Mathlib.Omega.{arith}
 use denote.Ref.{now}
 use lib.ListN.{drop}
 use Rattle.model.specs.Disk.{logLength, logEntries, entriesAgree}
-use Rattle.journal.proofs.Laws.Replay.{entries-few, place-below}
+use Rattle.disk_log.proofs.Laws.Replay.{entries-few, place-below}
 use Rattle.journal.proofs.Laws.Recovery.{agree-stop, agree-go, agree-end}
 use Rattle.journal.proofs.recovery.entries_agree.Statement.{statement}
 use Rattle.journal.proofs.recovery.entries_agree.Tie as tie

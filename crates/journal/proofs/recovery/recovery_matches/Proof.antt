@@ -16,7 +16,7 @@ use Rattle.model.proofs.Laws.DiskParts.{disk-bitmap-length}
 use Rattle.model.proofs.Laws.Valid.{valid-parts}
 use Rattle.model.proofs.Laws.Shape.{Shaped, shaped}
 use Rattle.journal.proofs.Laws.Memory.{RecoveryInHand, recovery-in-hand}
-use Rattle.journal.proofs.Laws.Sam.{bitmap-is}
+use Rattle.disk_log.proofs.Laws.Sam.{bitmap-is}
 use Rattle.journal.proofs.Laws.Rewritten.{rewritten-is}
 use Rattle.journal.proofs.Laws.Recovery.{log-agrees, recovery-parts, stop-first, stop-second, go-last}
 use Rattle.journal.proofs.recovery.recovery_matches.Statement.{statement}

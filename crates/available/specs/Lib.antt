@@ -1,0 +1,3 @@
+-- Available blocks, and what taking them leaves.
+pub mod Available
+pub mod Take

@@ -1,0 +1,151 @@
+-- The invariant: the log is valid if its entries from `i` on may follow those before them.
+use Prim.Native.Nat.{_-_, _≤_}
+use mathlib.Core.Path.{_≡_, sym, _∙_}
+use native.Mathlib.Omega.{arith}
+use denote.Ref.{now}
+use lib.ListN.{drop}
+use borrow.Author.Tests.{not-true, not-false}
+use Rattle.model.specs.Disk.{diskBlocks, logLength, logEntries, entriesValid, logValid}
+use Rattle.disk_log.proofs.Laws.Log.{log-too-long, log-entries, follows-below, entries-stop, entries-go, entries-end}
+use Rattle.disk_log.proofs.log.log_valid.Statement.{statement}
+use Rattle.disk_log.proofs.log.log_valid.Tie as tie
+
+abbrev Inv-loop : tie.InvT-loop
+Inv-loop disk blocks entries count low₀ i₀ low i =
+    (i ≤ logLength disk)
+    ×
+    (logLength disk ≤ 128)
+    ×
+    (logValid disk ≡ entriesValid (diskBlocks disk) low (drop i (logEntries disk)))
+
+abbrev μ-loop : tie.MeasureT-loop
+μ-loop disk blocks entries count low₀ i₀ low i = logLength disk - i
+
+shared-slice-read-blocks : tie.Need-shared-slice-read-blocks Inv-loop μ-loop
+shared-slice-read-blocks c = omega arith
+
+shared-slice-read-entries : tie.Need-shared-slice-read-entries Inv-loop μ-loop
+shared-slice-read-entries c = omega arith
+
+words-for-requires : tie.Need-words-for-requires Inv-loop μ-loop
+words-for-requires c κs = omega arith
+
+returns : tie.Need-returns Inv-loop μ-loop
+returns c =
+    let start = c .before .before .before .before .before in
+    sym (log-too-long (now (start .args .disk)) (omega (arith, c .before .words-for .ensures)))
+
+cast-count : tie.Need-cast-count Inv-loop μ-loop
+cast-count c = omega arith
+
+loop-holds : tie.Need-loop-holds Inv-loop μ-loop
+loop-holds c =
+    let start = c .before .before .before .before .before in
+    (omega arith, omega (arith, c .before .words-for .ensures), log-entries (now (start .args .disk)) (omega (arith, c .before .words-for .ensures)))
+
+number-requires : tie.Need-number-requires Inv-loop μ-loop
+number-requires c κs = omega arith
+
+contents-requires : tie.Need-contents-requires Inv-loop μ-loop
+contents-requires c κs = omega arith
+
+entry-valid-requires : tie.Need-entry-valid-requires Inv-loop μ-loop
+entry-valid-requires c κs = omega arith
+
+returns-2 : tie.Need-returns-2 Inv-loop μ-loop
+returns-2 c =
+    let number = c .before .before .before .number in
+    let contents = c .before .before .contents in
+    let start = c .before .before .before .before .before .before .before .before .before .before .before in
+    let at = c .before .before .before .before .before .loop in
+    sym
+    (at .inv .2
+    ∙ entries-stop
+    (now (start .args .disk))
+    (start .pre .0)
+    (at .inv .1)
+    (at .low)
+    (at .i)
+    (number .result)
+    (contents .result)
+    (c .before .entry-valid .result)
+    (c .before .before .before .before .loop-test .taken)
+    (number .ensures)
+    (contents .ensures)
+    (c .before .entry-valid .ensures)
+    (not-true _ (c .if2 .taken)))
+
+add-low : tie.Need-add-low Inv-loop μ-loop
+add-low c =
+    let start = c .before .before .before .before .before .before .before .before .before .before .before in
+    let at = c .before .before .before .before .before .loop in
+    omega (
+      arith,
+      follows-below
+          (diskBlocks (now (start .args .disk)))
+          (at .low)
+          (c .before .before .before .number .result)
+          (c .before .before .contents .result)
+          (c .before .entry-valid .result)
+          (c .before .entry-valid .ensures)
+          (not-false _ (c .if2 .left)),
+    )
+
+add-i : tie.Need-add-i Inv-loop μ-loop
+add-i c = omega arith
+
+loop-less : tie.Need-loop-less Inv-loop μ-loop
+loop-less c = omega arith
+
+loop-again : tie.Need-loop-again Inv-loop μ-loop
+loop-again c =
+    let number = c .before .before .before .number in
+    let contents = c .before .before .contents in
+    let start = c .before .before .before .before .before .before .before .before .before .before .before in
+    let at = c .before .before .before .before .before .loop in (
+      omega arith,
+      at .inv .1,
+      at .inv .2
+          ∙ entries-go
+          (now (start .args .disk))
+          (start .pre .0)
+          (at .inv .1)
+          (at .low)
+          (at .i)
+          (number .result)
+          (contents .result)
+          (c .before .entry-valid .result)
+          (c .before .before .before .before .loop-test .taken)
+          (number .ensures)
+          (contents .ensures)
+          (c .before .entry-valid .ensures)
+          (not-false _ (c .if2 .left)),
+    )
+
+returns-3 : tie.Need-returns-3 Inv-loop μ-loop
+returns-3 c =
+    let start = c .before .before .before .before .before .before .before in
+    let at = c .before .loop in
+    sym (at .inv .2 ∙ entries-end (now (start .args .disk)) (start .pre .0) (at .inv .1) (at .low) (at .i) (c .loop-test .left))
+
+pub log-valid-spec : {M : Type 1} → statement M
+log-valid-spec =
+    tie.close
+    (tie.spec
+    Inv-loop
+    μ-loop
+    shared-slice-read-blocks
+    shared-slice-read-entries
+    words-for-requires
+    returns
+    cast-count
+    loop-holds
+    number-requires
+    contents-requires
+    entry-valid-requires
+    returns-2
+    add-low
+    add-i
+    loop-less
+    loop-again
+    returns-3)

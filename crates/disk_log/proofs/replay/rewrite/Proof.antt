@@ -1,0 +1,137 @@
+-- The invariant: the entries from `i` on, written over the words as they are, make what all of them make of the first.
+use Prim.Native.Nat.{_-_, _≤_}
+use mathlib.Core.Path.{_≡_, refl, sym, _∙_}
+use native.Mathlib.Omega.{arith}
+use denote.Ref.{now}
+use lib.ListN.{length, drop, length-set}
+use Rattle.bitmap.specs.Sizes.{bitmapWords}
+use Rattle.model.specs.Stores.{writes}
+use Rattle.model.specs.Disk.{logLength, logEntries}
+use Rattle.disk_log.proofs.Laws.Replay.{entries-few, place-below, rewrite-more, rewrite-end}
+use Rattle.disk_log.proofs.replay.rewrite.Statement.{statement}
+use Rattle.disk_log.proofs.replay.rewrite.Tie as tie
+
+abbrev Inv-loop : tie.InvT-loop
+Inv-loop words₀ disk from count i₀ words i =
+    (i ≤ logLength disk)
+    ×
+    (length words ≡ bitmapWords)
+    ×
+    (writes (drop i (logEntries disk)) words ≡ writes (drop from (logEntries disk)) words₀)
+
+abbrev μ-loop : tie.MeasureT-loop
+μ-loop words₀ disk from count i₀ words i = logLength disk - i
+
+shared-slice-read-count : tie.Need-shared-slice-read-count Inv-loop μ-loop
+shared-slice-read-count c = omega arith
+
+cast-count : tie.Need-cast-count Inv-loop μ-loop
+cast-count c = omega (arith, c .shared-slice-known2 .given 1)
+
+loop-holds : tie.Need-loop-holds Inv-loop μ-loop
+loop-holds c =
+    let start = c .before .before in
+    (omega arith, start .pre .0, refl)
+
+number-requires : tie.Need-number-requires Inv-loop μ-loop
+number-requires c κs =
+    let start = c .before .before .before .before in
+    omega (arith, entries-few (now (start .args .disk)) (start .pre .1 .1 .0) (start .pre .1 .1 .1 .0))
+
+cast-place : tie.Need-cast-place Inv-loop μ-loop
+cast-place c = omega arith
+
+contents-requires : tie.Need-contents-requires Inv-loop μ-loop
+contents-requires c κs =
+    let start = c .before .before .before .before .before in
+    omega (arith, entries-few (now (start .args .disk)) (start .pre .1 .1 .0) (start .pre .1 .1 .1 .0))
+
+mul-words : tie.Need-mul-words Inv-loop μ-loop
+mul-words c =
+    let start = c .before .before .before .before .before .before in
+    omega (
+      arith,
+      c .before .number .ensures,
+      place-below
+          (now (start .args .disk))
+          (c .before .before .before .loop .i)
+          (start .pre .1 .0)
+          (start .pre .1 .1 .0)
+          (start .pre .1 .1 .1 .0)
+          (c .before .before .loop-test .taken),
+    )
+
+element-write-words : tie.Need-element-write-words Inv-loop μ-loop
+element-write-words c =
+    let start = c .before .before .before .before .before .before in
+    omega (
+      arith,
+      c .before .number .ensures,
+      place-below
+          (now (start .args .disk))
+          (c .before .before .before .loop .i)
+          (start .pre .1 .0)
+          (start .pre .1 .1 .0)
+          (start .pre .1 .1 .1 .0)
+          (c .before .before .loop-test .taken),
+    )
+
+add-i : tie.Need-add-i Inv-loop μ-loop
+add-i c =
+    let start = c .before .before .before .before .before .before in
+    omega (arith, entries-few (now (start .args .disk)) (start .pre .1 .1 .0) (start .pre .1 .1 .1 .0))
+
+loop-less : tie.Need-loop-less Inv-loop μ-loop
+loop-less c = omega arith
+
+loop-again : tie.Need-loop-again Inv-loop μ-loop
+loop-again c =
+    let start = c .before .before .before .before .before .before in
+    let at = c .before .before .before .loop in (
+      omega arith,
+      simp length-set (at .inv .1),
+      rewrite-more
+          (now (start .args .disk))
+          (at .words)
+          (at .i)
+          (c .before .number .result)
+          (c .contents .result)
+          (start .pre .1 .0)
+          (entries-few (now (start .args .disk)) (start .pre .1 .1 .0) (start .pre .1 .1 .1 .0))
+          (c .before .before .loop-test .taken)
+          (c .before .number .ensures)
+          (c .contents .ensures)
+          ∙ at .inv .2,
+    )
+
+returns : tie.Need-returns Inv-loop μ-loop
+returns c =
+    let start = c .before .before .before .before in
+    sym
+    (rewrite-end
+    (now (start .args .disk))
+    (c .before .loop .words)
+    (c .before .loop .i)
+    (start .pre .1 .0)
+    (entries-few (now (start .args .disk)) (start .pre .1 .1 .0) (start .pre .1 .1 .1 .0))
+    (c .loop-test .left))
+    ∙ c .before .loop .inv .2
+
+pub rewrite-spec : {M : Type 1} → statement M
+rewrite-spec =
+    tie.close
+    (tie.spec
+    Inv-loop
+    μ-loop
+    shared-slice-read-count
+    cast-count
+    loop-holds
+    number-requires
+    cast-place
+    contents-requires
+    mul-words
+    element-write-words
+    add-i
+    loop-less
+    loop-again
+    returns)

@@ -1,0 +1,2 @@
+-- Lemmas of the calls' proofs.
+pub mod Laws
