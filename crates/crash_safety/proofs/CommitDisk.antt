@@ -21,7 +21,7 @@ use Rattle.model.specs.Sizes.{logAt}
 use Rattle.model.specs.Stores.{Store, writes, after, commitStores}
 use Rattle.model.specs.Commit.{committedSam, entriesOf, changedOf}
 use Rattle.model.specs.Valid.{sameWords, pendingValid}
-use Rattle.model.specs.Disk.{durable, ground}
+use Rattle.model.specs.Disk.{durable, baseImage}
 use Rattle.model.specs.Ledger.{stores}
 use Rattle.model.specs.Calls.Opening.{openError}
 use Rattle.model.proofs.Laws.Writes.{and-first, and-second, same-words, writes-changes, store-next-one}
@@ -41,14 +41,14 @@ pub record CommitParts (memory : Memory) (s done due : ℕ) : Type 0 where
   pub due-is : due ≡ 3 * changedOf memory s + 2
   pub not-ended : done < due
 
-sealed-active : (state : SlotState) → isPrecommitted state ≡ true → isActive state ≡ true
-sealed-active Idle e = e
-sealed-active Open e = refl
-sealed-active Precommitted e = refl
+precommitted-active : (state : SlotState) → isPrecommitted state ≡ true → isActive state ≡ true
+precommitted-active Idle e = e
+precommitted-active Open e = refl
+precommitted-active Precommitted e = refl
 
 -- only a slot of the eight is precommitted
-sealed-below : (memory : Memory) (s : ℕ) → length (memory .slots) ≡ 8 → isPrecommitted (slotAt memory s .state) ≡ true → s < 8
-sealed-below memory s eight e = go (decLe 8 s)
+precommitted-below : (memory : Memory) (s : ℕ) → length (memory .slots) ≡ 8 → isPrecommitted (slotAt memory s .state) ≡ true → s < 8
+precommitted-below memory s eight e = go (decLe 8 s)
   where
     go : Dec (8 ≤ s) → s < 8
     go (yes h) =
@@ -64,8 +64,8 @@ commit-parts memory s done due eight e =
     let e1 = and-first _ (eqb due (3 * changedOf memory s + 2)) e2 in
     let e0 = and-first (isPrecommitted (slotAt memory s .state)) (leb 1 (changedOf memory s)) e1 in
     record {
-      active = sealed-active (slotAt memory s .state) e0;
-      below = sealed-below memory s eight e0;
+      active = precommitted-active (slotAt memory s .state) e0;
+      below = precommitted-below memory s eight e0;
       some-changed = leb-true 1 (changedOf memory s) (and-second (isPrecommitted (slotAt memory s .state)) _ e1);
       due-is = eqb-true due (3 * changedOf memory s + 2) (and-second (isPrecommitted (slotAt memory s .state) && leb 1 (changedOf memory s)) _ e2);
       not-ended =
@@ -115,11 +115,11 @@ module _ (memory : Memory) (disk : List ℕ) (s : ℕ) (parts : ValidParts memor
 
   -- the next store on a disk that is as k stores leave it
   pub next-disk : (k : ℕ)
-      → sameWords disk (after k (commitStores (entriesOf memory s)) (ground memory disk)) ≡ true
+      → sameWords disk (after k (commitStores (entriesOf memory s)) (baseImage memory disk)) ≡ true
       → writes (take 1 (drop k (commitStores (entriesOf memory s)))) disk ≡ diskAfter memory disk s (k + 1)
   next-disk k e =
-      ap (writes (take 1 (drop k (commitStores (entriesOf memory s))))) (same-words disk (after k (commitStores (entriesOf memory s)) (ground memory disk)) e)
-      ∙ store-next-one k (commitStores (entriesOf memory s)) (ground memory disk)
+      ap (writes (take 1 (drop k (commitStores (entriesOf memory s))))) (same-words disk (after k (commitStores (entriesOf memory s)) (baseImage memory disk)) e)
+      ∙ store-next-one k (commitStores (entriesOf memory s)) (baseImage memory disk)
 
   pub next-small : (k : ℕ) → Small disk → Small (writes (take 1 (drop k (commitStores (entriesOf memory s)))) disk)
   unfolding entriesOf

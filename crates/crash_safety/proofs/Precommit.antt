@@ -24,8 +24,8 @@ use Rattle.crash_safety.proofs.Refused.{call-keeps, is-valid, is-nothin
 use Rattle.crash_safety.proofs.Touching.{touching, touching-alone, holders-set, plain-of, active-taken, active-freed, volume-bit}
 use Rattle.model.specs.Calls.Precommit.{precommitError, precommitting, precommitMemory, precommitAnswer}
 
-sealed-tie : (sam : ℕ → Bool) (slot : Slot) (sets : Sets) → isActive (slot .state) ≡ true → Tied sam slot sets → Tied sam (slotOf Precommitted (slot .tam)) sets
-sealed-tie sam slot sets active tie =
+precommitted-tie : (sam : ℕ → Bool) (slot : Slot) (sets : Sets) → isActive (slot .state) ≡ true → Tied sam slot sets → Tied sam (slotOf Precommitted (slot .tam)) sets
+precommitted-tie sam slot sets active tie =
     record { taken = λ b. active-taken sam slot sets b tie active; freed = λ b. active-freed sam slot sets b tie active }
 
 pub precommit-keeps : (w : World) (s : ℕ) → Invariant w → Invariant (step (precommitCall s) w)
@@ -38,4 +38,4 @@ precommit-keeps w s i =
     let nothing = is-nothing (w .memory) (n .1 .0) in
     let plain = plain-of (w .memory) (w .ledger) (w .memory .pending) nothing (i .related v .pending) in
     touching-alone w s (slotOf Precommitted (slotAt (w .memory) s .tam)) i v nothing (leb-false 8 s (n .1 .1 .0))
-    (sealed-tie (samBit (w .memory)) (slotAt (w .memory) s) (setsOf (w .ledger) s) (not-false (isActive (slotAt (w .memory) s .state)) (n .1 .1 .1 .0)) (plain .0 .slots s)))
+    (precommitted-tie (samBit (w .memory)) (slotAt (w .memory) s) (setsOf (w .ledger) s) (not-false (isActive (slotAt (w .memory) s .state)) (n .1 .1 .1 .0)) (plain .0 .slots s)))

@@ -11,7 +11,7 @@ use lib.Seq.{getD-set-same, getD-set-other, set-out, getD-take, getD-drop}
 use lib.Dec.{eqb}
 use Rattle.bitmap.proofs.Laws.Bits.{below-or-from}
 use mathlib.Core.Logic.{⊎-elim}
-use Rattle.model.specs.Stores.{Store, writes, changesFrom, changes, logStores, onDisk, mendStores, commitStores, _≔_}
+use Rattle.model.specs.Stores.{Store, writes, changesFrom, changes, logStores, onDisk, checkpointStores, commitStores, _≔_}
 use Rattle.model.specs.Disk.{diskBitmap, entriesIn, logEntries, durable}
 use Rattle.model.proofs.Laws.Entries.{Places}
 use Rattle.crash_safety.proofs.Invariant.{Small}
@@ -55,9 +55,9 @@ onDisk-small : (entries : List Store) → SmallStores entries → SmallStores (m
 onDisk-small [] s = tt
 onDisk-small (entry ∷ entries) s = (s .0, onDisk-small entries (s .1))
 
-pub mend-small : (entries : List Store) → SmallStores entries → SmallStores (mendStores entries)
-unfolding mendStores
-mend-small entries s = append-small (map onDisk entries) _ (onDisk-small entries s) (omega arith, tt)
+pub checkpoint-small : (entries : List Store) → SmallStores entries → SmallStores (checkpointStores entries)
+unfolding checkpointStores
+checkpoint-small entries s = append-small (map onDisk entries) _ (onDisk-small entries s) (omega arith, tt)
 
 log-small : (at : ℕ) (entries : List Store) → Places 128 entries → SmallStores entries → SmallStores (logStores at entries)
 unfolding logStores
@@ -66,7 +66,7 @@ log-small at (entry ∷ entries) p s = (omega (arith, p .0), (s .0, log-small (a
 
 pub commit-small : (entries : List Store) → Places 128 entries → length entries ≤ 128 → SmallStores entries → SmallStores (commitStores entries)
 unfolding commitStores
-commit-small entries p few s = append-small (logStores 130 entries) _ (log-small 130 entries p s) (omega arith, mend-small entries s)
+commit-small entries p few s = append-small (logStores 130 entries) _ (log-small 130 entries p s) (omega arith, checkpoint-small entries s)
 
 -- the entries of small words
 pub changes-small : (k : ℕ) (old new : List ℕ) → Small new → SmallStores (changesFrom k old new)

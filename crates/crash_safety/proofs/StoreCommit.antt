@@ -22,8 +22,8 @@ use Rattle.model.specs.Memory.{slotAt, isActive, samBit, tamBit, withPending}
 use Rattle.model.specs.Stores.{writes, after, commitStores}
 use Rattle.model.specs.Commit.{committedSam, entriesOf, changedOf, committed}
 use Rattle.model.specs.Valid.{sameWords}
-use Rattle.model.specs.Disk.{durable, ground}
-use Rattle.model.specs.Ledger.{Sets, noSets, Ledger, setsOf, without, marks, stores, withCounting, holders, takers}
+use Rattle.model.specs.Disk.{durable, baseImage}
+use Rattle.model.specs.Ledger.{Sets, noSets, Ledger, setsOf, without, commits, stores, withCounting, holders, takers}
 use Rattle.model.specs.Calls.Opening.{openError}
 use Rattle.model.specs.Calls.Storing.{advanced}
 use Rattle.model.specs.World.{World, worldOf}
@@ -59,9 +59,9 @@ marked memory ledger s active plain b =
     ∙ marked-bit (samBit memory b) (tamBit (slotAt memory s) b)
 
 -- each block that the slot took passes from the slot to the allocated set
-pub marks-holders : (ledger : Ledger) (s b : ℕ) → s < length (ledger .slots) → holders ledger b ≤ 1 → holders (marks ledger s) b ≤ 1
-unfolding holders marks member
-marks-holders ledger s b h k = go (member b (setsOf ledger s .taken)) refl (member b (ledger .allocated)) refl
+pub commits-holders : (ledger : Ledger) (s b : ℕ) → s < length (ledger .slots) → holders ledger b ≤ 1 → holders (commits ledger s) b ≤ 1
+unfolding holders commits member
+commits-holders ledger s b h k = go (member b (setsOf ledger s .taken)) refl (member b (ledger .allocated)) refl
   where
     after : List ℕ
     after = without (ledger .allocated) (setsOf ledger s .freed) ++ setsOf ledger s .taken
@@ -108,7 +108,7 @@ module _ (w : World) (s k dueNow : ℕ) (i : Invariant w)
     (eight : length (w .memory .slots) ≡ 8)
     (commit : CommitParts (w .memory) s k dueNow)
     (size : length (w .disk) ≡ 386)
-    (matches : sameWords (w .disk) (after k (commitStores (entriesOf (w .memory) s)) (ground (w .memory) (w .disk))) ≡ true) where
+    (matches : sameWords (w .disk) (after k (commitStores (entriesOf (w .memory) s)) (baseImage (w .memory) (w .disk))) ≡ true) where
   abbrev stored : List ℕ
   stored = writes (take 1 (drop k (commitStores (entriesOf (w .memory) s)))) (w .disk)
 
@@ -155,12 +155,12 @@ module _ (w : World) (s k dueNow : ℕ) (i : Invariant w)
       })
 
   -- the commit point
-  at-point : k ≡ 2 * changedOf (w .memory) s → Plain (w .memory) (w .ledger) → Invariant (worldOf more stored (marks (w .ledger) s))
-  unfolding marks
+  at-point : k ≡ 2 * changedOf (w .memory) s → Plain (w .memory) (w .ledger) → Invariant (worldOf more stored (commits (w .ledger) s))
+  unfolding commits
   at-point e plain =
-      keeps more (marks (w .ledger) s)
+      keeps more (commits (w .ledger) s)
       (λ b. ap (λ (words : List ℕ). bit words b) (stands-after (w .memory) (w .disk) s parts sam size (k + 1) (omega arith)) ∙ new b)
-      (λ b. marks-holders (w .ledger) s b there (i .one-holder b))
+      (λ b. commits-holders (w .ledger) s b there (i .one-holder b))
       (length-set (w .ledger .slots) s noSets ∙ i .slots)
       (record {
         sam = sam;
@@ -181,7 +181,7 @@ module _ (w : World) (s k dueNow : ℕ) (i : Invariant w)
       there : s < length (w .ledger .slots)
       there = omega (arith, i .slots, commit .below)
 
-      new : (b : ℕ) → bit (committedSam (w .memory) s .words) b ≡ member b (marks (w .ledger) s .allocated)
+      new : (b : ℕ) → bit (committedSam (w .memory) s .words) b ≡ member b (commits (w .ledger) s .allocated)
       new b = committed-bits (w .memory) parts s (commit .active) b ∙ sym (marked (w .memory) (w .ledger) s (commit .active) plain b)
 
       past : 2 * changedOf (withPending (w .memory) (Commit s (k + 1) dueNow)) s < k + 1
@@ -224,11 +224,11 @@ module _ (w : World) (s k dueNow : ℕ) (i : Invariant w)
       uncounted)
 
   -- what the ledger does with a store under count
-  counted : Plain (w .memory) (w .ledger) → stores (w .ledger) (countingOf s k) ≡ cond (eqb (k + 1) (2 * changedOf (w .memory) s + 1)) (marks (w .ledger) s) (withCounting (w .ledger) (countingOf s (k + 1)))
+  counted : Plain (w .memory) (w .ledger) → stores (w .ledger) (countingOf s k) ≡ cond (eqb (k + 1) (2 * changedOf (w .memory) s + 1)) (commits (w .ledger) s) (withCounting (w .ledger) (countingOf s (k + 1)))
   unfolding stores
   counted plain =
       ap
-      (λ (n : ℕ). cond (eqb (k + 1) (2 * n + 1)) (marks (w .ledger) s) (withCounting (w .ledger) (countingOf s (k + 1))))
+      (λ (n : ℕ). cond (eqb (k + 1) (2 * n + 1)) (commits (w .ledger) s) (withCounting (w .ledger) (countingOf s (k + 1))))
       (same-words-counted (w .memory) s (setsOf (w .ledger) s) parts sam (commit .active) (plain .slots s))
 
   early : k ≤ 2 * changedOf (w .memory) s → Plain (w .memory) (w .ledger) → w .ledger .counting ≡ countingOf s k
@@ -238,13 +238,13 @@ module _ (w : World) (s k dueNow : ℕ) (i : Invariant w)
       (go (ℕ-discrete k (2 * changedOf (w .memory) s)))
     where
       go : Dec (k ≡ 2 * changedOf (w .memory) s)
-          → Invariant (worldOf more stored (cond (eqb (k + 1) (2 * changedOf (w .memory) s + 1)) (marks (w .ledger) s) (withCounting (w .ledger) (countingOf s (k + 1)))))
+          → Invariant (worldOf more stored (cond (eqb (k + 1) (2 * changedOf (w .memory) s + 1)) (commits (w .ledger) s) (withCounting (w .ledger) (countingOf s (k + 1)))))
       go (yes e) =
-          subst (λ (t : Bool). Invariant (worldOf more stored (cond t (marks (w .ledger) s) (withCounting (w .ledger) (countingOf s (k + 1))))))
+          subst (λ (t : Bool). Invariant (worldOf more stored (cond t (commits (w .ledger) s) (withCounting (w .ledger) (countingOf s (k + 1))))))
           (sym (eq-eqb (k + 1) (2 * changedOf (w .memory) s + 1) (omega arith)))
           (at-point e plain)
       go (no n) =
-          subst (λ (t : Bool). Invariant (worldOf more stored (cond t (marks (w .ledger) s) (withCounting (w .ledger) (countingOf s (k + 1))))))
+          subst (λ (t : Bool). Invariant (worldOf more stored (cond t (commits (w .ledger) s) (withCounting (w .ledger) (countingOf s (k + 1))))))
           (sym (ne-eqb (k + 1) (2 * changedOf (w .memory) s + 1) (λ e. n (omega arith))))
           (before (omega (arith, n)) plain)
 

@@ -13,16 +13,16 @@ use Rattle.bitmap.specs.Bits.{bit, IsBitmap}
 use Rattle.bitmap.specs.Blocks.{member}
 use Rattle.model.specs.declared.memory.Pending.the-variants.{Nothing, Recovery}
 use Rattle.model.specs.Memory.{withPending}
-use Rattle.model.specs.Stores.{mendStores}
+use Rattle.model.specs.Stores.{checkpointStores}
 use Rattle.model.specs.Disk.{logLength, logEntries, durable, recoveryMatches}
 use Rattle.model.specs.Ledger.{Ledger, stores}
 use Rattle.model.specs.Calls.Opening.{openError}
 use Rattle.model.specs.Calls.Storing.{advanced}
 use Rattle.model.specs.World.{World, worldOf}
 use Rattle.model.proofs.Laws.Matching.{RecoveryMatches, matching-parts}
-use Rattle.model.proofs.Laws.RecoveryStep.{mendNext, mended-opens, mended-durable, cleared-opens, cleared-durable, all-rewritten}
+use Rattle.model.proofs.Laws.RecoveryStep.{checkpointNext, checkpointed-opens, checkpointed-durable, cleared-opens, cleared-durable, all-rewritten}
 use Rattle.crash_safety.proofs.Invariant.{Plain, Related, Invariant}
-use Rattle.crash_safety.proofs.Small.{writes-small, take-small, drop-small, mend-small, log-entries-small}
+use Rattle.crash_safety.proofs.Small.{writes-small, take-small, drop-small, checkpoint-small, log-entries-small}
 
 pub recovery-store-keeps : (w : World) (k dueNow : ℕ)
     → Invariant w
@@ -31,7 +31,7 @@ pub recovery-store-keeps : (w : World) (k dueNow : ℕ)
     → recoveryMatches (w .memory) (w .disk) k dueNow ≡ true
     → k < dueNow
     → Plain (w .memory) (w .ledger) × (w .ledger .counting ≡ none)
-    → Invariant (worldOf (advanced (w .memory) (Recovery k dueNow)) (mendNext (w .disk) k) (stores (w .ledger) (w .ledger .counting)))
+    → Invariant (worldOf (advanced (w .memory) (Recovery k dueNow)) (checkpointNext (w .disk) k) (stores (w .ledger) (w .ledger .counting)))
 unfolding advanced stores
 recovery-store-keeps w k dueNow i sam eight e h plain =
     subst
@@ -43,7 +43,7 @@ recovery-store-keeps w k dueNow i sam eight e h plain =
     disk = w .disk
 
     stored : List ℕ
-    stored = mendNext (w .disk) k
+    stored = checkpointNext (w .disk) k
 
     m : RecoveryMatches (w .memory) (w .disk) k dueNow
     m = matching-parts (w .memory) (w .disk) k dueNow e
@@ -58,8 +58,8 @@ recovery-store-keeps w k dueNow i sam eight e h plain =
     keeps opens kept =
         record {
           small =
-              writes-small (take 1 (drop k (mendStores (logEntries disk)))) disk
-              (take-small 1 (drop k (mendStores (logEntries disk))) (drop-small k (mendStores (logEntries disk)) (mend-small (logEntries disk) (log-entries-small disk (i .small)))))
+              writes-small (take 1 (drop k (checkpointStores (logEntries disk)))) disk
+              (take-small 1 (drop k (checkpointStores (logEntries disk))) (drop-small k (checkpointStores (logEntries disk)) (checkpoint-small (logEntries disk) (log-entries-small disk (i .small)))))
               (i .small);
           opens = opens;
           kept = kept;
@@ -73,8 +73,8 @@ recovery-store-keeps w k dueNow i sam eight e h plain =
         let q : k ≡ logLength disk = omega (arith, m .due-is, h) in
         let at-end = all-rewritten disk (i .opens) (w .memory) dueNow (subst (λ (n : ℕ). RecoveryMatches (w .memory) disk n dueNow) q m) in
         keeps
-        (ap (λ (n : ℕ). openError (mendNext disk n)) q ∙ cleared-opens disk (i .opens))
-        (λ b. ap (λ (n : ℕ). bit (durable (mendNext disk n)) b) q ∙ ap (λ (x : List ℕ). bit x b) (cleared-durable disk (i .opens) ∙ at-end) ∙ plain .0 .finds b)
+        (ap (λ (n : ℕ). openError (checkpointNext disk n)) q ∙ cleared-opens disk (i .opens))
+        (λ b. ap (λ (n : ℕ). bit (durable (checkpointNext disk n)) b) q ∙ ap (λ (x : List ℕ). bit x b) (cleared-durable disk (i .opens) ∙ at-end) ∙ plain .0 .finds b)
     go (no n) =
         let g : k < logLength disk = lt-of-not-le n in
-        keeps (mended-opens disk (i .opens) k g) (λ b. ap (λ (x : List ℕ). bit x b) (mended-durable disk (i .opens) k g) ∙ i .kept b)
+        keeps (checkpointed-opens disk (i .opens) k g) (λ b. ap (λ (x : List ℕ). bit x b) (checkpointed-durable disk (i .opens) k g) ∙ i .kept b)

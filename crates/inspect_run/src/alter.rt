@@ -7,22 +7,22 @@ use crate::damage::sam_word;
 use crate::damage::slot_state;
 use crate::damage::tam_word;
 use crate::further::Further;
-use crate::lent::Lent;
-use crate::lent::MAX_LENGTH;
-use crate::lent::MAX_PLACES;
-use crate::lent::Step;
+use crate::fixture::Fixture;
+use crate::fixture::MAX_LENGTH;
+use crate::fixture::MAX_PLACES;
+use crate::fixture::Step;
 
 // Word I of the disk becomes V.
-fn disk_word(mut lent: Lent, index: u32, word: u32) -> Step
-    requires { ⌜ Sized lent ⌝ }
-    ensures { λ r. ⌜ Sized (r .lent) ⌝ }
+fn disk_word(mut fixture: Fixture, index: u32, word: u32) -> Step
+    requires { ⌜ Sized fixture ⌝ }
+    ensures { λ r. ⌜ Sized (r .fixture) ⌝ }
 {
     let i = index as usize;
-    if i < lent.length {
-        lent.disk[i] = word;
-        return lent.done();
+    if i < fixture.length {
+        fixture.disk[i] = word;
+        return fixture.done();
     }
-    lent.malformed()
+    fixture.malformed()
 }
 
 // Puts zeros from an index on.
@@ -35,55 +35,55 @@ fn clear(words: &mut [u32], from: usize) {
 }
 
 // The disk becomes N words long; words added are 0.
-fn disk_length(mut lent: Lent, words: u32) -> Step
-    requires { ⌜ Sized lent ⌝ }
-    ensures { λ r. ⌜ Sized (r .lent) ⌝ }
+fn disk_length(mut fixture: Fixture, words: u32) -> Step
+    requires { ⌜ Sized fixture ⌝ }
+    ensures { λ r. ⌜ Sized (r .fixture) ⌝ }
 {
     let length = words as usize;
     if MAX_LENGTH < length {
-        return lent.malformed();
+        return fixture.malformed();
     }
-    let mut disk = lent.disk;
-    clear(&mut disk, lent.length);
-    lent.disk = disk;
-    lent.length = length;
-    lent.done()
+    let mut disk = fixture.disk;
+    clear(&mut disk, fixture.length);
+    fixture.disk = disk;
+    fixture.length = length;
+    fixture.done()
 }
 
 // The list lent from now on is its first N places.
-fn list_places(mut lent: Lent, number: u32) -> Step
-    requires { ⌜ Sized lent ⌝ }
-    ensures { λ r. ⌜ Sized (r .lent) ⌝ }
+fn list_places(mut fixture: Fixture, number: u32) -> Step
+    requires { ⌜ Sized fixture ⌝ }
+    ensures { λ r. ⌜ Sized (r .fixture) ⌝ }
 {
     let places = number as usize;
     if MAX_PLACES < places {
-        return lent.malformed();
+        return fixture.malformed();
     }
-    lent.places = places;
-    lent.done()
+    fixture.places = places;
+    fixture.done()
 }
 
 // Any further line.
-pub(crate) fn alter(line: Further, lent: Lent) -> Step
-    requires { ⌜ Sized lent ⌝ }
-    ensures { λ r. ⌜ Sized (r .lent) ⌝ }
+pub(crate) fn alter(line: Further, fixture: Fixture) -> Step
+    requires { ⌜ Sized fixture ⌝ }
+    ensures { λ r. ⌜ Sized (r .fixture) ⌝ }
 {
     match line {
-        Further::Disk { index, word } => disk_word(lent, index, word),
-        Further::Length { words } => disk_length(lent, words),
-        Further::Blocks { blocks } => block_count(lent, blocks),
-        Further::Sam { index, word } => sam_word(lent, index, word),
-        Further::Com { index, word } => com_word(lent, index, word),
-        Further::Tam { slot, index, word } => tam_word(lent, slot, index, word),
-        Further::State { slot, code } => slot_state(lent, slot, code),
+        Further::Disk { index, word } => disk_word(fixture, index, word),
+        Further::Length { words } => disk_length(fixture, words),
+        Further::Blocks { blocks } => block_count(fixture, blocks),
+        Further::Sam { index, word } => sam_word(fixture, index, word),
+        Further::Com { index, word } => com_word(fixture, index, word),
+        Further::Tam { slot, index, word } => tam_word(fixture, slot, index, word),
+        Further::State { slot, code } => slot_state(fixture, slot, code),
         Further::Pending {
             kind,
             slot,
             done,
             due,
-        } => pending_work(lent, kind, slot, done, due),
-        Further::List { places } => list_places(lent, places),
-        Further::Show => lent.done(),
-        Further::Malformed => lent.malformed(),
+        } => pending_work(fixture, kind, slot, done, due),
+        Further::List { places } => list_places(fixture, places),
+        Further::Show => fixture.done(),
+        Further::Malformed => fixture.malformed(),
     }
 }

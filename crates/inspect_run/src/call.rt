@@ -1,7 +1,7 @@
 // The call that a bench line asks for.
 ghost use Rattle.inspect_run.specs.Sized.{Sized};
-use crate::lent::Lent;
-use crate::lent::Step;
+use crate::fixture::Fixture;
+use crate::fixture::Step;
 use allocator::allocate::allocate;
 use allocator::commit::commit;
 use allocator::deallocate::deallocate;
@@ -58,26 +58,26 @@ fn any_call(op: Op, slot: u32, n: u32, memory: Memory, disk: &mut [u32], list: &
 }
 
 // The call of a line, on the words that are lent. The list keeps what an allocate wrote.
-pub(crate) fn call(line: Line, lent: Lent) -> Step
-    requires { ⌜ Sized lent ⌝ }
-    ensures { λ r. ⌜ Sized (r .lent) ⌝ }
+pub(crate) fn call(line: Line, fixture: Fixture) -> Step
+    requires { ⌜ Sized fixture ⌝ }
+    ensures { λ r. ⌜ Sized (r .fixture) ⌝ }
 {
     let op = line.op;
-    let length = lent.length;
-    let places = lent.places;
-    let mut disk = lent.disk;
-    let mut list = lent.list;
+    let length = fixture.length;
+    let places = fixture.places;
+    let mut disk = fixture.disk;
+    let mut list = fixture.list;
     let next = any_call(
         op,
         line.slot,
         line.n,
-        lent.memory,
+        fixture.memory,
         &mut disk[..length],
         &mut list[..places],
     );
     let memory = next.memory;
     Step {
-        lent: Lent {
+        fixture: Fixture {
             memory,
             disk,
             length,

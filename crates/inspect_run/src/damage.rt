@@ -1,7 +1,7 @@
 // What further lines do to the memory. Out of range they alter nothing.
 ghost use Rattle.inspect_run.specs.Sized.{Sized};
-use crate::lent::Lent;
-use crate::lent::Step;
+use crate::fixture::Fixture;
+use crate::fixture::Step;
 use bitmap::Bitmap;
 use model::memory::Pending;
 use model::memory::Slot;
@@ -11,67 +11,67 @@ use model::memory::SlotState;
 const LAST_KIND: u32 = 2;
 
 // The memory's block count becomes V.
-pub(crate) fn block_count(lent: Lent, blocks: u32) -> Step
-    requires { ⌜ Sized lent ⌝ }
-    ensures { λ r. ⌜ Sized (r .lent) ⌝ }
+pub(crate) fn block_count(fixture: Fixture, blocks: u32) -> Step
+    requires { ⌜ Sized fixture ⌝ }
+    ensures { λ r. ⌜ Sized (r .fixture) ⌝ }
 {
-    let mut memory = lent.memory;
+    let mut memory = fixture.memory;
     memory.blocks = blocks;
-    lent.with_memory(memory).done()
+    fixture.with_memory(memory).done()
 }
 
 // Word I of SAM becomes V.
-pub(crate) fn sam_word(lent: Lent, index: u32, word: u32) -> Step
-    requires { ⌜ Sized lent ⌝ }
-    ensures { λ r. ⌜ Sized (r .lent) ⌝ }
+pub(crate) fn sam_word(fixture: Fixture, index: u32, word: u32) -> Step
+    requires { ⌜ Sized fixture ⌝ }
+    ensures { λ r. ⌜ Sized (r .fixture) ⌝ }
 {
     let i = index as usize;
     if Bitmap::WORDS <= i {
-        return lent.malformed();
+        return fixture.malformed();
     }
-    let mut memory = lent.memory;
+    let mut memory = fixture.memory;
     let mut sam = memory.sam;
     sam.words[i] = word;
     memory.sam = sam;
-    lent.with_memory(memory).done()
+    fixture.with_memory(memory).done()
 }
 
 // Word I of COM becomes V.
-pub(crate) fn com_word(lent: Lent, index: u32, word: u32) -> Step
-    requires { ⌜ Sized lent ⌝ }
-    ensures { λ r. ⌜ Sized (r .lent) ⌝ }
+pub(crate) fn com_word(fixture: Fixture, index: u32, word: u32) -> Step
+    requires { ⌜ Sized fixture ⌝ }
+    ensures { λ r. ⌜ Sized (r .fixture) ⌝ }
 {
     let i = index as usize;
     if Bitmap::WORDS <= i {
-        return lent.malformed();
+        return fixture.malformed();
     }
-    let mut memory = lent.memory;
+    let mut memory = fixture.memory;
     let mut com = memory.com;
     com.words[i] = word;
     memory.com = com;
-    lent.with_memory(memory).done()
+    fixture.with_memory(memory).done()
 }
 
 // Word I of slot S's bitmap becomes V.
-pub(crate) fn tam_word(lent: Lent, slot: u32, index: u32, word: u32) -> Step
-    requires { ⌜ Sized lent ⌝ }
-    ensures { λ r. ⌜ Sized (r .lent) ⌝ }
+pub(crate) fn tam_word(fixture: Fixture, slot: u32, index: u32, word: u32) -> Step
+    requires { ⌜ Sized fixture ⌝ }
+    ensures { λ r. ⌜ Sized (r .fixture) ⌝ }
 {
     let s = slot as usize;
     let i = index as usize;
     if Bitmap::SLOTS <= s {
-        return lent.malformed();
+        return fixture.malformed();
     }
     if Bitmap::WORDS <= i {
-        return lent.malformed();
+        return fixture.malformed();
     }
-    let mut memory = lent.memory;
+    let mut memory = fixture.memory;
     let own = memory.slots[s];
     let state = own.state;
     let mut tam = own.tam;
     tam.words[i] = word;
     memory.slots[s] = Slot::new(state, tam);
-    lent.with_memory(memory).done()
+    fixture.with_memory(memory).done()
 }
 
 // The state of a number: idle (0), open (1) or precommitted (2).
@@ -84,22 +84,22 @@ fn state_of(code: u32) -> SlotState {
 }
 
 // Slot S becomes idle, open or precommitted.
-pub(crate) fn slot_state(lent: Lent, slot: u32, code: u32) -> Step
-    requires { ⌜ Sized lent ⌝ }
-    ensures { λ r. ⌜ Sized (r .lent) ⌝ }
+pub(crate) fn slot_state(fixture: Fixture, slot: u32, code: u32) -> Step
+    requires { ⌜ Sized fixture ⌝ }
+    ensures { λ r. ⌜ Sized (r .fixture) ⌝ }
 {
     let s = slot as usize;
     if Bitmap::SLOTS <= s {
-        return lent.malformed();
+        return fixture.malformed();
     }
     if LAST_KIND < code {
-        return lent.malformed();
+        return fixture.malformed();
     }
-    let mut memory = lent.memory;
+    let mut memory = fixture.memory;
     let own = memory.slots[s];
     let tam = own.tam;
     memory.slots[s] = Slot::new(state_of(code), tam);
-    lent.with_memory(memory).done()
+    fixture.with_memory(memory).done()
 }
 
 // The pending work of a number: nothing (0), a commit (1) or a recovery (2).
@@ -112,14 +112,14 @@ fn pending_of(kind: u32, slot: u32, done: u32, due: u32) -> Pending {
 }
 
 // Nothing is pending, a commit or a recovery.
-pub(crate) fn pending_work(lent: Lent, kind: u32, slot: u32, done: u32, due: u32) -> Step
-    requires { ⌜ Sized lent ⌝ }
-    ensures { λ r. ⌜ Sized (r .lent) ⌝ }
+pub(crate) fn pending_work(fixture: Fixture, kind: u32, slot: u32, done: u32, due: u32) -> Step
+    requires { ⌜ Sized fixture ⌝ }
+    ensures { λ r. ⌜ Sized (r .fixture) ⌝ }
 {
     if LAST_KIND < kind {
-        return lent.malformed();
+        return fixture.malformed();
     }
-    let memory = lent.memory;
+    let memory = fixture.memory;
     let next = memory.with_pending(pending_of(kind, slot, done, due));
-    lent.with_memory(next).done()
+    fixture.with_memory(next).done()
 }

@@ -4,7 +4,7 @@ mod alter;
 mod call;
 mod damage;
 mod further;
-mod lent;
+mod fixture;
 mod line;
 mod lines;
 mod numbers;
@@ -14,7 +14,7 @@ ghost use mathlib.Core.Path.{_≡_};
 ghost use lib.ListN.{length};
 ghost use Rattle.printing.specs.Waits.{Waits};
 ghost use Rattle.inspect_run.specs.Reads.{kept};
-use lent::Lent;
+use fixture::Fixture;
 use line::answer;
 use lines::Reader;
 use lines::next_line;
@@ -29,7 +29,7 @@ fn answer_all(input: &mut [u8], line: &mut [u8], out: &mut [u8], at: usize) -> u
     requires { ⌜ Waits (now out) at ⌝ }
     ensures { λ r. ⌜ Waits (now (out .exit)) r ⌝ }
 {
-    let mut lent = Lent::new();
+    let mut fixture = Fixture::new();
     let mut reader = Reader::new();
     let mut end = at;
     let mut number = 1;
@@ -40,9 +40,9 @@ fn answer_all(input: &mut [u8], line: &mut [u8], out: &mut [u8], at: usize) -> u
             return end;
         }
         let len = reader.len;
-        let printed = answer(&line[..len], number, lent, out, end);
-        let next = printed.lent;
-        lent = next;
+        let printed = answer(&line[..len], number, fixture, out, end);
+        let next = printed.fixture;
+        fixture = next;
         end = printed.at;
         number += 1;
     }

@@ -4,27 +4,27 @@ ghost use Rattle.inspect_run.specs.Sized.{Sized};
 use crate::alter::alter;
 use crate::call::call;
 use crate::further;
-use crate::lent::Lent;
-use crate::lent::Step;
-use crate::show::put_lent;
+use crate::fixture::Fixture;
+use crate::fixture::Step;
+use crate::show::put_fixture;
 use check::same;
 use model::line::Parsed;
 use printing::place;
 
 // What a line leaves: what is lent, and the end of what waits to be written.
 pub(crate) struct Printed {
-    pub lent: Lent,
+    pub fixture: Fixture,
     pub at: usize,
 }
 
 // A bench line is a call, and any other a further line.
-fn step(line: &[u8], lent: Lent) -> Step
-    requires { ⌜ Sized lent ⌝ }
-    ensures { λ r. ⌜ Sized (r .lent) ⌝ }
+fn step(line: &[u8], fixture: Fixture) -> Step
+    requires { ⌜ Sized fixture ⌝ }
+    ensures { λ r. ⌜ Sized (r .fixture) ⌝ }
 {
     match bench_line::parse(line) {
-        Parsed::Call(asked) => call(asked, lent),
-        Parsed::Malformed => alter(further::parse(line), lent),
+        Parsed::Call(asked) => call(asked, fixture),
+        Parsed::Malformed => alter(further::parse(line), fixture),
     }
 }
 
@@ -38,23 +38,23 @@ fn put_answer(out: &mut [u8], at: usize, number: u32, answer: u32, value: u32) -
 }
 
 // Answers a line, and shows all that is lent if it asks for it.
-pub(crate) fn answer(line: &[u8], number: u32, lent: Lent, out: &mut [u8], at: usize) -> Printed
-    requires { ⌜ Sized lent ⌝ }
+pub(crate) fn answer(line: &[u8], number: u32, fixture: Fixture, out: &mut [u8], at: usize) -> Printed
+    requires { ⌜ Sized fixture ⌝ }
     requires { ⌜ Waits (now out) at ⌝ }
-    ensures { λ r. ⌜ Sized (r .lent) ⌝ }
+    ensures { λ r. ⌜ Sized (r .fixture) ⌝ }
     ensures { λ r. ⌜ Waits (now (out .exit)) (r .at) ⌝ }
 {
-    let step = step(line, lent);
-    let next = step.lent;
+    let step = step(line, fixture);
+    let next = step.fixture;
     let end = put_answer(out, at, number, step.answer, step.value);
     if same(line, b"show") {
         return Printed {
-            lent: next,
-            at: put_lent(out, end, next),
+            fixture: next,
+            at: put_fixture(out, end, next),
         };
     }
     Printed {
-        lent: next,
+        fixture: next,
         at: end,
     }
 }

@@ -1,7 +1,7 @@
 // What `show` prints: all that is lent, words that are 0 left out of bitmaps and disk.
 ghost use Rattle.printing.specs.Waits.{Waits};
 ghost use Rattle.inspect_run.specs.Sized.{Sized};
-use crate::lent::Lent;
+use crate::fixture::Fixture;
 use bitmap::Bitmap;
 use model::memory::Memory;
 use model::memory::Pending;
@@ -150,36 +150,36 @@ fn put_memory(out: &mut [u8], at: usize, memory: Memory) -> usize
 }
 
 // The disk.
-fn put_disk(out: &mut [u8], at: usize, lent: Lent) -> usize
+fn put_disk(out: &mut [u8], at: usize, fixture: Fixture) -> usize
     requires { ⌜ Waits (now out) at ⌝ }
-    requires { ⌜ Sized lent ⌝ }
+    requires { ⌜ Sized fixture ⌝ }
     ensures { λ r. ⌜ Waits (now (out .exit)) r ⌝ }
 {
-    let length = lent.length;
-    let disk = lent.disk;
+    let length = fixture.length;
+    let disk = fixture.disk;
     let next = put_field(out, at, b"disk length=", length as u64);
     put_words(out, next, &disk[..length])
 }
 
 // The list.
-fn put_places(out: &mut [u8], at: usize, lent: Lent) -> usize
+fn put_places(out: &mut [u8], at: usize, fixture: Fixture) -> usize
     requires { ⌜ Waits (now out) at ⌝ }
-    requires { ⌜ Sized lent ⌝ }
+    requires { ⌜ Sized fixture ⌝ }
     ensures { λ r. ⌜ Waits (now (out .exit)) r ⌝ }
 {
-    let places = lent.places;
-    let list = lent.list;
+    let places = fixture.places;
+    let list = fixture.list;
     let next = put_field(out, at, b"list length=", places as u64);
     put_list(out, next, &list[..places])
 }
 
 // All of it.
-pub(crate) fn put_lent(out: &mut [u8], at: usize, lent: Lent) -> usize
+pub(crate) fn put_fixture(out: &mut [u8], at: usize, fixture: Fixture) -> usize
     requires { ⌜ Waits (now out) at ⌝ }
-    requires { ⌜ Sized lent ⌝ }
+    requires { ⌜ Sized fixture ⌝ }
     ensures { λ r. ⌜ Waits (now (out .exit)) r ⌝ }
 {
-    let after_memory = put_memory(out, at, lent.memory);
-    let after_disk = put_disk(out, after_memory, lent);
-    put_places(out, after_disk, lent)
+    let after_memory = put_memory(out, at, fixture.memory);
+    let after_disk = put_disk(out, after_memory, fixture);
+    put_places(out, after_disk, fixture)
 }

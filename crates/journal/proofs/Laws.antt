@@ -1,7 +1,7 @@
 -- What the loops over a disk's words check and write, and the model's definitions.
 pub mod Memory
 pub mod Rewritten
-pub mod MendedWords
+pub mod Checkpointed
 pub mod LogWords
 pub mod Matching
 pub mod WordByWord

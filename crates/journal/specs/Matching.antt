@@ -30,27 +30,27 @@ entryWritten disk done i number contents =
     && cond (leb done (2 * i + 1)) true (eqb (getD disk (logAt + 2 * i + 1) 0) contents))
 
 -- what word of the bitmap stands on the disk: the new one where it is among the changed words written
-abbrev pub mendedWord : ℕ → ℕ → ℕ → ℕ → ℕ
-mendedWord mended i old new = cond (ltb i mended) new old
+abbrev pub checkpointedWord : ℕ → ℕ → ℕ → ℕ → ℕ
+checkpointedWord checkpointed i old new = cond (ltb i checkpointed) new old
 
 -- whether bitmap word k is as the stores done leave it, i changed words being before it; if it changes, its log entry too
 unfoldable pub wordMatches : List ℕ → ℕ → ℕ → ℕ → ℕ → ℕ → ℕ → Bool
-wordMatches disk done mended k i old new =
+wordMatches disk done checkpointed k i old new =
     cond (eqb old new)
     (eqb (getD disk (bitmapAt + k) 0) old)
-    (eqb (getD disk (bitmapAt + k) 0) (mendedWord mended i old new) && entryWritten disk done i k new)
+    (eqb (getD disk (bitmapAt + k) 0) (checkpointedWord checkpointed i old new) && entryWritten disk done i k new)
 
 -- and all words from number k on
 unfoldable pub wordsMatch : List ℕ → ℕ → ℕ → ℕ → ℕ → List ℕ → List ℕ → Bool
-wordsMatch disk done mended k i [] news = true
-wordsMatch disk done mended k i (old ∷ olds) [] = true
-wordsMatch disk done mended k i (old ∷ olds) (new ∷ news) =
-    wordMatches disk done mended k i old new && wordsMatch disk done mended (suc k) (i + differs old new) olds news
+wordsMatch disk done checkpointed k i [] news = true
+wordsMatch disk done checkpointed k i (old ∷ olds) [] = true
+wordsMatch disk done checkpointed k i (old ∷ olds) (new ∷ news) =
+    wordMatches disk done checkpointed k i old new && wordsMatch disk done checkpointed (suc k) (i + differs old new) olds news
 
 -- the log length on the disk: 0 until the commit point, and then the number of changed words
 abbrev pub lengthAfter : ℕ → ℕ → ℕ
 lengthAfter changed done = cond (leb done (2 * changed)) 0 changed
 
 -- how many of the changed words are written to the bitmap: the stores after the commit point
-abbrev pub mendedAfter : ℕ → ℕ → ℕ
-mendedAfter changed done = done - (2 * changed + 1)
+abbrev pub checkpointedAfter : ℕ → ℕ → ℕ
+checkpointedAfter changed done = done - (2 * changed + 1)

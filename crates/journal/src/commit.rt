@@ -5,7 +5,7 @@ ghost use Prim.Native.Nat.{_≤_, _<_};
 ghost use Rattle.bitmap.specs.Sizes.{slotCount, bitmapWords};
 ghost use Rattle.model.specs.Commit.{committedSam};
 ghost use Rattle.model.specs.Valid.{valid};
-ghost use Rattle.journal.specs.Matching.{lengthAfter, mendedAfter};
+ghost use Rattle.journal.specs.Matching.{lengthAfter, checkpointedAfter};
 use bitops::combine::majority;
 use model::memory::Memory;
 
@@ -31,9 +31,9 @@ pub fn length_after(changed: u32, done: u32) -> u32
 }
 
 // How many changed words stand in the disk's bitmap after so many stores.
-pub fn mended_after(changed: u32, done: u32) -> usize
+pub fn checkpointed_after(changed: u32, done: u32) -> usize
     requires { ⌜ changed ≤ bitmapWords ⌝ }
-    ensures { λ r. ⌜ r ≡ mendedAfter changed done ⌝ }
+    ensures { λ r. ⌜ r ≡ checkpointedAfter changed done ⌝ }
 {
     if done <= 2 * changed {
         return 0;

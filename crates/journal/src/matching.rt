@@ -7,7 +7,7 @@ ghost use Rattle.model.specs.Valid.{valid};
 ghost use Rattle.model.specs.Disk.{diskMatches};
 use crate::commit::committed_sam;
 use crate::commit::length_after;
-use crate::commit::mended_after;
+use crate::commit::checkpointed_after;
 use crate::head::head_matches;
 use crate::recovery::recovery_matches;
 use crate::written::words_match;
@@ -43,7 +43,7 @@ fn commit_matches(memory: Memory, disk: &[u32], slot: u32, done: u32, due: u32) 
     words_match(
         disk,
         done as usize,
-        mended_after(changed, done),
+        checkpointed_after(changed, done),
         &memory.sam.words,
         &new,
     )

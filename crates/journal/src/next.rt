@@ -6,7 +6,7 @@ ghost use lib.ListN.{length};
 ghost use Rattle.bitmap.specs.Sizes.{maxBlocks};
 ghost use Rattle.bitmap.specs.Bits.{IsBitmap};
 ghost use Rattle.model.specs.Sizes.{diskWords, logAt};
-ghost use Rattle.model.specs.Stores.{changes, commitStores, mendStores};
+ghost use Rattle.model.specs.Stores.{changes, commitStores, checkpointStores};
 ghost use Rattle.model.specs.Disk.{diskBlocks, logLength, logEntries, logValid};
 ghost use Rattle.journal.specs.Next.{IsChange, IsNext};
 use crate::written::differs;
@@ -93,7 +93,7 @@ pub fn recovery_next(disk: &[u32], done: usize) -> Store
     requires { ⌜ diskBlocks (now disk) ≤ maxBlocks ⌝ }
     requires { ⌜ logValid (now disk) ≡ true ⌝ }
     requires { ⌜ done ≤ logLength (now disk) ⌝ }
-    ensures { λ r. ⌜ IsNext (mendStores (logEntries (now (disk .entry)))) done (r .place) (r .value) ⌝ }
+    ensures { λ r. ⌜ IsNext (checkpointStores (logEntries (now (disk .entry)))) done (r .place) (r .value) ⌝ }
 {
     if done == disk[LENGTH_AT] as usize {
         return Store {

@@ -5,7 +5,7 @@ ghost use lib.ListN.{length};
 ghost use Rattle.bitmap.specs.Sizes.{bitmapWords};
 ghost use Rattle.bitmap.specs.Bits.{IsBitmap};
 ghost use Rattle.model.specs.Sizes.{diskWords};
-ghost use Rattle.journal.specs.Matching.{differs, mendedWord, entryWritten, wordMatches, wordsMatch};
+ghost use Rattle.journal.specs.Matching.{differs, checkpointedWord, entryWritten, wordMatches, wordsMatch};
 use bitmap::Bitmap;
 use disk_log::layout::BITMAP_AT;
 use disk_log::log::contents;
@@ -19,10 +19,10 @@ pub fn differs(old: u32, new: u32) -> usize
 }
 
 // The word that the disk's bitmap has: the new one where it is among the changed words written.
-fn mended_word(mended: usize, i: usize, old: u32, new: u32) -> u32
-    ensures { λ r. ⌜ r ≡ mendedWord mended i old new ⌝ }
+fn checkpointed_word(checkpointed: usize, i: usize, old: u32, new: u32) -> u32
+    ensures { λ r. ⌜ r ≡ checkpointedWord checkpointed i old new ⌝ }
 {
-    if i < mended { new } else { old }
+    if i < checkpointed { new } else { old }
 }
 
 // Whether the words of log entry i are as so many stores done leave them.
@@ -47,7 +47,7 @@ fn entry_written(disk: &[u32], done: usize, i: usize, place: usize, word: u32) -
 fn word_matches(
     disk: &[u32],
     done: usize,
-    mended: usize,
+    checkpointed: usize,
     k: usize,
     i: usize,
     old: u32,
@@ -56,13 +56,13 @@ fn word_matches(
     requires { ⌜ length (now disk) ≡ diskWords ⌝ }
     requires { ⌜ k < bitmapWords ⌝ }
     requires { ⌜ i < bitmapWords ⌝ }
-    ensures { λ r. ⌜ r ≡ wordMatches (now (disk .entry)) done mended k i old new ⌝ }
+    ensures { λ r. ⌜ r ≡ wordMatches (now (disk .entry)) done checkpointed k i old new ⌝ }
 {
     let word = disk[BITMAP_AT + k];
     if old == new {
         return word == old;
     }
-    if word != mended_word(mended, i, old, new) {
+    if word != checkpointed_word(checkpointed, i, old, new) {
         return false;
     }
     entry_written(disk, done, i, k, new)
@@ -72,20 +72,20 @@ fn word_matches(
 pub fn words_match(
     disk: &[u32],
     done: usize,
-    mended: usize,
+    checkpointed: usize,
     old: &[u32; 128],
     new: &[u32; 128],
 ) -> bool
     requires { ⌜ length (now disk) ≡ diskWords ⌝ }
     requires { ⌜ IsBitmap (now old) ⌝ }
     requires { ⌜ IsBitmap (now new) ⌝ }
-    ensures { λ r. ⌜ r ≡ wordsMatch (now (disk .entry)) done mended 0 0 (now (old .entry)) (now (new .entry)) ⌝ }
+    ensures { λ r. ⌜ r ≡ wordsMatch (now (disk .entry)) done checkpointed 0 0 (now (old .entry)) (now (new .entry)) ⌝ }
 {
     let mut i = 0;
     for k in 0..Bitmap::WORDS {
         let was = old[k];
         let will = new[k];
-        if !word_matches(disk, done, mended, k, i, was, will) {
+        if !word_matches(disk, done, checkpointed, k, i, was, will) {
             return false;
         }
         i += differs(was, will);

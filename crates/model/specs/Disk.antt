@@ -8,7 +8,7 @@ use Rattle.bitmap.specs.Sizes.{bitmapWords, wordsFor}
 use Rattle.bitmap.specs.Bits.{noBitsFrom}
 use Rattle.model.specs.Types.{Bitmap, Pending, Nothing, Commit, Recovery, Memory}
 use Rattle.model.specs.Sizes.{blocksAt, lengthAt, bitmapAt, logAt}
-use Rattle.model.specs.Stores.{Store, writes, after, commitStores, mendStores, _≔_}
+use Rattle.model.specs.Stores.{Store, writes, after, commitStores, checkpointStores, _≔_}
 use Rattle.model.specs.Commit.{entriesOf}
 use Rattle.model.specs.Valid.{sameWords}
 
@@ -60,7 +60,7 @@ durable disk = writes (logEntries disk) (diskBitmap disk)
 unfoldable pub dueStores : Memory → List ℕ → Pending → List Store
 dueStores memory disk Nothing = []
 dueStores memory disk (Commit s done due) = commitStores (entriesOf memory s)
-dueStores memory disk (Recovery done due) = mendStores (logEntries disk)
+dueStores memory disk (Recovery done due) = checkpointStores (logEntries disk)
 
 -- whether the entries of a log agree with a bitmap
 unfoldable pub entriesAgree : List ℕ → List Store → Bool
@@ -68,8 +68,8 @@ entriesAgree words [] = true
 entriesAgree words (entry ∷ entries) = eqb (getD words (entry .place) 0) (entry .value) && entriesAgree words entries
 
 -- the disk before the stores of a commit, by its own log words: those written since are written by the stores done
-abbrev pub ground : Memory → List ℕ → List ℕ
-ground memory disk = diskOf (memory .blocks) 0 (memory .sam .words) (drop logAt disk)
+abbrev pub baseImage : Memory → List ℕ → List ℕ
+baseImage memory disk = diskOf (memory .blocks) 0 (memory .sam .words) (drop logAt disk)
 
 -- "in recovery all p entries must pass cause 5 and agree with SAM, and logged map words still to be rewritten may hold any
 -- bits below m": with those words written, words 2 to 129 are SAM
@@ -84,6 +84,6 @@ recoveryMatches memory disk done due =
 
 -- cause 6 doesn't hold: "words 0 to 129 and the log words written" are "as this memory and its stores done leave them"
 unfoldable pub diskMatches : Memory → List ℕ → Pending → Bool
-diskMatches memory disk Nothing = sameWords disk (ground memory disk)
-diskMatches memory disk (Commit s done due) = sameWords disk (after done (commitStores (entriesOf memory s)) (ground memory disk))
+diskMatches memory disk Nothing = sameWords disk (baseImage memory disk)
+diskMatches memory disk (Commit s done due) = sameWords disk (after done (commitStores (entriesOf memory s)) (baseImage memory disk))
 diskMatches memory disk (Recovery done due) = recoveryMatches memory disk done due

@@ -93,8 +93,8 @@ counts ledger s = cond (eqb (setsWords (setsOf ledger s)) 0) ledger (withCountin
 
 -- the commit point (document 01: the mark store): "A loses what the seat gave back and gains what it took, both its sets
 -- are emptied, the count is none."
-unfoldable pub marks : Ledger → ℕ → Ledger
-marks ledger s =
+unfoldable pub commits : Ledger → ℕ → Ledger
+commits ledger s =
     ledgerOf
     (without (ledger .allocated) (setsOf ledger s .freed) ++ setsOf ledger s .taken)
     (set (ledger .slots) s noSets)
@@ -105,7 +105,7 @@ unfoldable pub stores : Ledger → Option Counting → Ledger
 stores ledger none = ledger
 stores ledger (some counting) =
     cond (eqb (counting .number + 1) (2 * setsWords (setsOf ledger (counting .slot)) + 1))
-    (marks ledger (counting .slot))
+    (commits ledger (counting .slot))
     (withCounting ledger (some (record { slot = counting .slot; number = counting .number + 1 })))
 
 -- what an accepted call, or a crash, alters. "start, precommit, status: nothing alters"

@@ -44,9 +44,9 @@ abbrev pub onDisk : Store → Store
 onDisk entry = (bitmapAt + entry .place) ≔ entry .value
 
 -- "the d map words, rising; word 1 becomes 0": the end of a commit, and all of a recovery, in log order
-unfoldable pub mendStores : List Store → List Store
-mendStores entries = map onDisk entries ++ (lengthAt ≔ 0 ∷ [])
+unfoldable pub checkpointStores : List Store → List Store
+checkpointStores entries = map onDisk entries ++ (lengthAt ≔ 0 ∷ [])
 
 -- all stores of a commit: the log, the commit point (document 01: the mark), the bitmap words, word 1 to 0
 unfoldable pub commitStores : List Store → List Store
-commitStores entries = logStores logAt entries ++ (lengthAt ≔ length entries ∷ mendStores entries)
+commitStores entries = logStores logAt entries ++ (lengthAt ≔ length entries ∷ checkpointStores entries)

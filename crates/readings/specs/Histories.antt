@@ -12,7 +12,7 @@ use Rattle.bitmap.specs.Majority.{majority}
 use Rattle.model.specs.Errors.{firstOr, first, unlessRefused}
 use Rattle.model.specs.Answers.{doneNumber, grantNumber, storesNumber, storesValue, done, granted, due}
 use Rattle.model.specs.Memory.{touched}
-use Rattle.model.specs.Stores.{writes, changesFrom, logStores, mendStores, commitStores}
+use Rattle.model.specs.Stores.{writes, changesFrom, logStores, checkpointStores, commitStores}
 use Rattle.model.specs.Commit.{committedSam, entriesOf, changedOf, refreshed, committed}
 use Rattle.model.specs.Valid.{blocksInRange, sameWords, allSlots, slotValid, touches, touchesAgree, isQuiet, pendingValid, valid}
 use Rattle.model.specs.Disk.{diskOf, entriesIn, logEntries, entriesValid, logValid, durable, dueStores, entriesAgree, recoveryMatches, diskMatches}
@@ -29,7 +29,7 @@ use Rattle.model.specs.Calls.Format.{formatError, formatted, formatDisk}
 use Rattle.model.specs.Calls.Rollback.{rollbackError, rolledBackCom, rolledBack, rollbackAnswer, rollbackMemory}
 use Rattle.model.specs.Calls.Status.{statusError, statusAnswer}
 use Rattle.model.specs.Causes.{blocksOutOfRange}
-use Rattle.model.specs.Ledger.{setsOf, emptied, hasWord, wordsFrom, setsWords, without, takes, frees, counts, marks, stores, entered, enter}
+use Rattle.model.specs.Ledger.{setsOf, emptied, hasWord, wordsFrom, setsWords, without, takes, frees, counts, commits, stores, entered, enter}
 use Rattle.model.specs.World.{Call, World, begin, crashed, step, run, openCall, startCall, allocateCall, deallocateCall, precommitCall, commitCall, rollbackCall, storeCall, statusCall, crashCall}
 
 -- n store calls
@@ -144,7 +144,7 @@ expected =
     ∷ []
 
 computed : sameRows histories expected ≡ true
-unfolding sameRows expected histories shown after beforePoint afterPoint retaken reopened grow list storeCalls allocatedBlocks formatError formatted formatDisk rollbackError rolledBackCom rolledBack rollbackAnswer rollbackMemory statusError statusAnswer blocksOutOfRange emptied hasWord wordsFrom setsWords without takes frees counts marks stores entered enter crashed step run isSet bit wordOf wordsOf bitmapOf noBitsFrom scan from isAvailable availableBlocks member allBelow majority firstOr first unlessRefused done granted due touched xor writes changesFrom logStores mendStores commitStores committedSam entriesOf changedOf refreshed committed blocksInRange sameWords allSlots slotValid touches touchesAgree isQuiet pendingValid valid entriesIn logEntries entriesValid logValid durable dueStores entriesAgree recoveryMatches diskMatches memoryInvalid diskLengthWrong diskBlocksWrong diskBitmapWrong diskLogWrong diskMismatched isNothing nothingPending workPending slotOutOfRange slotActive slotInactive slotPrecommitted slotNotPrecommitted countOutOfRange listShort available tooFewAvailable blockOutOfRange blockFree blockFreeing openError recoveryDue recoveryPending opened openAnswer openMemory startError started startAnswer startMemory allocateError lowest taking allocateAnswer allocateMemory allocateList deallocateError freeing deallocateAnswer deallocateMemory precommitError precommitting precommitAnswer precommitMemory commitError commitDue committing commitAnswer commitMemory storeError storesDone stillDue advanced nextStored storeAnswer storeMemory storeDisk
+unfolding sameRows expected histories shown after beforePoint afterPoint retaken reopened grow list storeCalls allocatedBlocks formatError formatted formatDisk rollbackError rolledBackCom rolledBack rollbackAnswer rollbackMemory statusError statusAnswer blocksOutOfRange emptied hasWord wordsFrom setsWords without takes frees counts commits stores entered enter crashed step run isSet bit wordOf wordsOf bitmapOf noBitsFrom scan from isAvailable availableBlocks member allBelow majority firstOr first unlessRefused done granted due touched xor writes changesFrom logStores checkpointStores commitStores committedSam entriesOf changedOf refreshed committed blocksInRange sameWords allSlots slotValid touches touchesAgree isQuiet pendingValid valid entriesIn logEntries entriesValid logValid durable dueStores entriesAgree recoveryMatches diskMatches memoryInvalid diskLengthWrong diskBlocksWrong diskBitmapWrong diskLogWrong diskMismatched isNothing nothingPending workPending slotOutOfRange slotActive slotInactive slotPrecommitted slotNotPrecommitted countOutOfRange listShort available tooFewAvailable blockOutOfRange blockFree blockFreeing openError recoveryDue recoveryPending opened openAnswer openMemory startError started startAnswer startMemory allocateError lowest taking allocateAnswer allocateMemory allocateList deallocateError freeing deallocateAnswer deallocateMemory precommitError precommitting precommitAnswer precommitMemory commitError commitDue committing commitAnswer commitMemory storeError storesDone stillDue advanced nextStored storeAnswer storeMemory storeDisk
 computed = refl
 
 pub worked : histories ≡ expected

@@ -16,7 +16,7 @@ use Rattle.model.specs.declared.memory.Pending.the-variants.{Nothing}
 use Rattle.model.specs.Errors.{firstOr, first, unlessRefused}
 use Rattle.model.specs.Answers.{doneNumber, grantNumber, storesNumber, storesValue, done, granted, due}
 use Rattle.model.specs.Memory.{quietMemory, bitmap, slotAt, touched}
-use Rattle.model.specs.Stores.{Store, writes, after, changesFrom, logStores, mendStores, commitStores}
+use Rattle.model.specs.Stores.{Store, writes, after, changesFrom, logStores, checkpointStores, commitStores}
 use Rattle.model.specs.Commit.{committedSam, entriesOf, changedOf, refreshed, committed}
 use Rattle.model.specs.Valid.{blocksInRange, sameWords, allSlots, slotValid, touches, touchesAgree, isQuiet, pendingValid, valid}
 use Rattle.model.specs.Disk.{diskOf, entriesIn, logEntries, entriesValid, logValid, durable, dueStores, entriesAgree, recoveryMatches, diskMatches}
@@ -65,13 +65,13 @@ readings =
     let taken1 = allocateMemory open1 1 1 list in
     let open2 = startMemory taken1 2 in
     let taken2 = allocateMemory open2 2 2 list in
-    let sealed2 = precommitMemory taken2 2 in
-    let pending2 = commitMemory sealed2 2 in
+    let precommitted2 = precommitMemory taken2 2 in
+    let pending2 = commitMemory precommitted2 2 in
     let begun2 : Pair = record { memory = pending2; disk = disk0 } in
     let committed2 = stored 5 begun2 .memory in
     let crash2 = stored 2 begun2 .disk in
     let crash3 = stored 3 begun2 .disk in
-    let sealed1 = precommitMemory open1 1 in
+    let precommitted1 = precommitMemory open1 1 in
     take 1 (allocateList open1 1 1 list)
     ∷ take 2 (allocateList open2 2 2 list)
     ∷ (word0 (taken2 .com) ∷ [])
@@ -82,7 +82,7 @@ readings =
     ∷ (word0 (openMemory crash3 .sam) ∷ storesValue (openAnswer crash3) ∷ [])
     ∷ (grantNumber (allocateAnswer taken2 1 1 list) ∷ [])
     ∷ (doneNumber (deallocateAnswer taken2 1 1) ∷ [])
-    ∷ (storesNumber (commitAnswer sealed1 1) ∷ storesValue (commitAnswer sealed1 1) ∷ [])
+    ∷ (storesNumber (commitAnswer precommitted1 1) ∷ storesValue (commitAnswer precommitted1 1) ∷ [])
     ∷ (wordsFor 32 ∷ wordsFor 33 ∷ [])
     ∷ []
 
@@ -104,7 +104,7 @@ expected =
     ∷ []
 
 computed : sameRows readings expected ≡ true
-unfolding sameRows expected list sam0 disk0 stored word0 flat readings isSet bit wordOf wordsOf bitmapOf noBitsFrom scan from isAvailable availableBlocks member allBelow majority firstOr first unlessRefused done granted due touched xor writes changesFrom logStores mendStores commitStores committedSam entriesOf changedOf refreshed committed blocksInRange sameWords allSlots slotValid touches touchesAgree isQuiet pendingValid valid entriesIn logEntries entriesValid logValid durable dueStores entriesAgree recoveryMatches diskMatches memoryInvalid diskLengthWrong diskBlocksWrong diskBitmapWrong diskLogWrong diskMismatched isNothing nothingPending workPending slotOutOfRange slotActive slotInactive slotPrecommitted slotNotPrecommitted countOutOfRange listShort available tooFewAvailable blockOutOfRange blockFree blockFreeing openError recoveryDue recoveryPending opened openAnswer openMemory startError started startAnswer startMemory allocateError lowest taking allocateAnswer allocateMemory allocateList deallocateError freeing deallocateAnswer deallocateMemory precommitError precommitting precommitAnswer precommitMemory commitError commitDue committing commitAnswer commitMemory storeError storesDone stillDue advanced nextStored storeAnswer storeMemory storeDisk
+unfolding sameRows expected list sam0 disk0 stored word0 flat readings isSet bit wordOf wordsOf bitmapOf noBitsFrom scan from isAvailable availableBlocks member allBelow majority firstOr first unlessRefused done granted due touched xor writes changesFrom logStores checkpointStores commitStores committedSam entriesOf changedOf refreshed committed blocksInRange sameWords allSlots slotValid touches touchesAgree isQuiet pendingValid valid entriesIn logEntries entriesValid logValid durable dueStores entriesAgree recoveryMatches diskMatches memoryInvalid diskLengthWrong diskBlocksWrong diskBitmapWrong diskLogWrong diskMismatched isNothing nothingPending workPending slotOutOfRange slotActive slotInactive slotPrecommitted slotNotPrecommitted countOutOfRange listShort available tooFewAvailable blockOutOfRange blockFree blockFreeing openError recoveryDue recoveryPending opened openAnswer openMemory startError started startAnswer startMemory allocateError lowest taking allocateAnswer allocateMemory allocateList deallocateError freeing deallocateAnswer deallocateMemory precommitError precommitting precommitAnswer precommitMemory commitError commitDue committing commitAnswer commitMemory storeError storesDone stillDue advanced nextStored storeAnswer storeMemory storeDisk
 computed = refl
 
 pub table : readings ≡ expected

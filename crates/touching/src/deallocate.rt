@@ -54,9 +54,9 @@ fn freeing(mut memory: Memory, slot: u32, block: u32) -> Memory
 {
     let at = slot as usize;
     clear(&mut memory.com.words, block);
-    let mut holder = memory.slots[at];
-    clear(&mut holder.tam.words, block);
-    memory.slots[at] = holder;
+    let mut own = memory.slots[at];
+    clear(&mut own.tam.words, block);
+    memory.slots[at] = own;
     memory
 }
 

@@ -18,8 +18,8 @@ fn precommitting(mut memory: Memory, slot: u32) -> Memory
     ensures { λ r. ⌜ r ≡ precommitting memory slot ⌝ }
 {
     let at = slot as usize;
-    let holder = memory.slots[at];
-    let tam = holder.tam;
+    let own = memory.slots[at];
+    let tam = own.tam;
     memory.slots[at] = Slot::new(SlotState::Precommitted, tam);
     memory
 }

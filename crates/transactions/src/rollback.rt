@@ -20,9 +20,9 @@ fn rolled_back(mut memory: Memory, slot: u32) -> Memory
     ensures { λ r. ⌜ r ≡ rolledBack memory slot ⌝ }
 {
     let at = slot as usize;
-    let holder = memory.slots[at];
+    let own = memory.slots[at];
     let sam = memory.sam;
-    combine::rollback(&mut memory.com.words, &sam.words, &holder.tam.words);
+    combine::rollback(&mut memory.com.words, &sam.words, &own.tam.words);
     memory.slots[at] = Slot::idle();
     memory
 }

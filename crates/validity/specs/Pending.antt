@@ -16,8 +16,8 @@ changedWords sam «com» tam = length (changes sam (zip3 majorityWord sam «com�
 
 -- "a commit in hand belongs to a precommitted seat with d of at least 1 and stores due 3·d + 2; .. stores done are fewer
 -- than stores due"
-unfoldable pub commitFits : SlotState → List ℕ → List ℕ → List ℕ → ℕ → ℕ → Bool
-commitFits state sam «com» tam done due =
+unfoldable pub commitValid : SlotState → List ℕ → List ℕ → List ℕ → ℕ → ℕ → Bool
+commitValid state sam «com» tam done due =
     isPrecommitted state
     && leb 1 (changedWords sam «com» tam)
     && eqb due (3 * changedWords sam «com» tam + 2)

@@ -4,7 +4,7 @@ ghost use Prim.Native.Nat.{_≤_};
 ghost use Rattle.bitmap.specs.Sizes.{maxBlocks};
 ghost use Rattle.bitmap.specs.Bits.{IsBitmap};
 ghost use Rattle.model.specs.Valid.{pendingValid};
-ghost use Rattle.validity.specs.Pending.{commitFits};
+ghost use Rattle.validity.specs.Pending.{commitValid};
 use crate::state::is_active;
 use crate::state::is_precommitted;
 use bitmap::Bitmap;
@@ -27,7 +27,7 @@ pub fn commit_valid<'a>(
     requires { ⌜ IsBitmap (now sam) ⌝ }
     requires { ⌜ IsBitmap (now «com») ⌝ }
     requires { ⌜ IsBitmap (now tam) ⌝ }
-    ensures { λ r. ⌜ r ≡ commitFits state (now (sam .entry)) (now («com» .entry)) (now (tam .entry)) done due ⌝ }
+    ensures { λ r. ⌜ r ≡ commitValid state (now (sam .entry)) (now («com» .entry)) (now (tam .entry)) done due ⌝ }
 {
     if !is_precommitted(state) {
         return false;

@@ -21,8 +21,8 @@ abbrev pub activeCauses : Memory → ℕ → List Cause
 activeCauses memory s = readyCauses memory s ++ (slotInactive memory s ⇒ SlotIdle ∷ [])
 
 -- and 13: allocate, deallocate and precommit
-abbrev pub openCauses : Memory → ℕ → List Cause
-openCauses memory s = activeCauses memory s ++ (slotPrecommitted memory s ⇒ SlotPrecommitted ∷ [])
+abbrev pub openSlotCauses : Memory → ℕ → List Cause
+openSlotCauses memory s = activeCauses memory s ++ (slotPrecommitted memory s ⇒ SlotPrecommitted ∷ [])
 
 abbrev pub readyError : Memory → ℕ → Option Error
 readyError memory s = first (readyCauses memory s)
@@ -30,5 +30,5 @@ readyError memory s = first (readyCauses memory s)
 abbrev pub activeError : Memory → ℕ → Option Error
 activeError memory s = first (activeCauses memory s)
 
-abbrev pub openError : Memory → ℕ → Option Error
-openError memory s = first (openCauses memory s)
+abbrev pub openSlotError : Memory → ℕ → Option Error
+openSlotError memory s = first (openSlotCauses memory s)

@@ -7,7 +7,7 @@ ghost use Rattle.model.specs.Memory.{slotAt};
 ghost use Rattle.model.specs.Valid.{valid};
 ghost use Rattle.model.specs.Causes.{isNothing};
 ghost use Rattle.verdicts.specs.Verdicts.{verdict};
-ghost use Rattle.verdicts.specs.Ready.{readyError, activeError, openError};
+ghost use Rattle.verdicts.specs.Ready.{readyError, activeError, openSlotError};
 use crate::verdict::Verdict;
 use bitmap::Bitmap;
 use model::error::Error;
@@ -38,8 +38,8 @@ pub fn slot_state(memory: Memory, slot: u32) -> SlotState
     ensures { λ r. ⌜ r ≡ slotAt memory slot .state ⌝ }
 {
     let at = slot as usize;
-    let holder = memory.slots[at];
-    holder.state
+    let own = memory.slots[at];
+    own.state
 }
 
 // Causes 1, 8 and 10: all six test them.
@@ -81,7 +81,7 @@ pub fn ready_active(sound: bool, memory: Memory, slot: u32) -> Verdict
 // Those, and 13: allocate, deallocate and precommit test them.
 pub fn ready_open(sound: bool, memory: Memory, slot: u32) -> Verdict
     requires { ⌜ sound ≡ valid memory ⌝ }
-    ensures { λ r. ⌜ r ≡ verdict (openError memory slot) ⌝ }
+    ensures { λ r. ⌜ r ≡ verdict (openSlotError memory slot) ⌝ }
 {
     let earlier = ready_active(sound, memory, slot);
     match earlier {

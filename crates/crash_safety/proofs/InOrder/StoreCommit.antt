@@ -15,7 +15,7 @@ use Rattle.model.specs.Sizes.{logAt}
 use Rattle.model.specs.Stores.{writes, after, commitStores}
 use Rattle.model.specs.Commit.{committedSam, entriesOf, changedOf, committed}
 use Rattle.model.specs.Valid.{sameWords, pendingValid}
-use Rattle.model.specs.Disk.{diskOf, ground, diskMatches}
+use Rattle.model.specs.Disk.{diskOf, baseImage, diskMatches}
 use Rattle.model.specs.Calls.Storing.{advanced}
 use Rattle.model.proofs.Laws.Writes.{and-both, and-first, length-writes, words-same}
 use Rattle.model.proofs.Laws.Valid.{ValidParts, parts-valid}
@@ -29,7 +29,7 @@ use Rattle.crash_safety.proofs.CommitDisk.{CommitParts, commit-parts, d
 module _ (memory : Memory) (disk : List ℕ) (s k due : ℕ) (parts : ValidParts memory) (sam : IsBitmap (memory .sam .words))
     (size : length disk ≡ 386)
     (pending : pendingValid memory (Commit s k due) ≡ true)
-    (matches : sameWords disk (after k (commitStores (entriesOf memory s)) (ground memory disk)) ≡ true) where
+    (matches : sameWords disk (after k (commitStores (entriesOf memory s)) (baseImage memory disk)) ≡ true) where
   abbrev stored : List ℕ
   stored = writes (take 1 (drop k (commitStores (entriesOf memory s)))) disk
 

@@ -20,21 +20,21 @@ use Rattle.model.proofs.Laws.Writes.{and-both, and-first, and-second, length-wr
 use Rattle.model.proofs.Laws.Valid.{ValidParts, parts-valid}
 use Rattle.model.proofs.Laws.Touches.{pending-valid}
 use Rattle.model.proofs.Laws.Matching.{RecoveryMatches, parts-matching}
-use Rattle.model.proofs.Laws.RecoveryStep.{mendNext, mended-matches, cleared-matches}
+use Rattle.model.proofs.Laws.RecoveryStep.{checkpointNext, checkpointed-matches, cleared-matches}
 use Rattle.crash_safety.specs.InOrder.{Consistent}
 
 module _ (memory : Memory) (disk : List ℕ) (k due : ℕ) (parts : ValidParts memory) (size : length disk ≡ 386)
     (opens : openError disk ≡ none)
     (pending : pendingValid memory (Recovery k due) ≡ true)
     (m : RecoveryMatches memory disk k due) where
-  next-size : length (mendNext disk k) ≡ 386
+  next-size : length (checkpointNext disk k) ≡ 386
   next-size = length-writes (take 1 (drop k _)) disk ∙ size
 
   below : k < due
   unfolding pendingValid
   below = ltb-true k due (and-second (isQuiet memory && leb 2 due && leb due (volumeWords memory + 1)) (ltb k due) pending)
 
-  more-words : k + 1 < due → Consistent (withPending memory (Recovery (k + 1) due)) (mendNext disk k)
+  more-words : k + 1 < due → Consistent (withPending memory (Recovery (k + 1) due)) (checkpointNext disk k)
   unfolding diskMatches pendingValid isQuiet recoveryMatches
   more-words h =
       record {
@@ -45,10 +45,10 @@ module _ (memory : Memory) (disk : List ℕ) (k due : ℕ) (parts : ValidParts m
             (and-first (isQuiet memory && leb 2 due && leb due (volumeWords memory + 1)) (ltb k due) pending)
             (lt-ltb (k + 1) due h)));
         size = next-size;
-        matches = parts-matching memory (mendNext disk k) (k + 1) due (mended-matches disk opens k (omega (arith, m .due-is)) memory due m);
+        matches = parts-matching memory (checkpointNext disk k) (k + 1) due (checkpointed-matches disk opens k (omega (arith, m .due-is)) memory due m);
       }
 
-  word-one : k + 1 ≡ due → Consistent (withPending memory Nothing) (mendNext disk k)
+  word-one : k + 1 ≡ due → Consistent (withPending memory Nothing) (checkpointNext disk k)
   unfolding diskMatches pendingValid
   word-one e =
       record {
@@ -56,14 +56,14 @@ module _ (memory : Memory) (disk : List ℕ) (k due : ℕ) (parts : ValidParts m
         size = next-size;
         matches =
             let q : logLength disk ≡ k = omega (arith, m .due-is) in
-            subst (λ (n : ℕ). sameWords (mendNext disk n) (diskOf (memory .blocks) 0 (memory .sam .words) (drop logAt (mendNext disk n))) ≡ true) q
+            subst (λ (n : ℕ). sameWords (checkpointNext disk n) (diskOf (memory .blocks) 0 (memory .sam .words) (drop logAt (checkpointNext disk n))) ≡ true) q
             (cleared-matches disk opens memory due (subst (λ (n : ℕ). RecoveryMatches memory disk n due) (sym q) m));
       }
 
-  pub recovery-store : Consistent (advanced memory (Recovery k due)) (mendNext disk k)
+  pub recovery-store : Consistent (advanced memory (Recovery k due)) (checkpointNext disk k)
   unfolding advanced
   recovery-store = go (eqb (k + 1) due) refl
     where
-      go : (t : Bool) → eqb (k + 1) due ≡ t → Consistent (cond t (withPending memory Nothing) (withPending memory (Recovery (k + 1) due))) (mendNext disk k)
+      go : (t : Bool) → eqb (k + 1) due ≡ t → Consistent (cond t (withPending memory Nothing) (withPending memory (Recovery (k + 1) due))) (checkpointNext disk k)
       go true e = word-one (eqb-true (k + 1) due e)
       go false e = more-words (omega (arith, eqb-false (k + 1) due e, below))

@@ -11,20 +11,20 @@ use Rattle.inspect_run.specs.Reads.{Reading}
 use borrow.Author.Needs.{needs}
 use Rattle.inspect_run.proofs.answer_all.Statement.{statement}
 use Rattle.inspect_run.proofs.answer_all.Tie as tie
-use Rattle.inspect_run.proofs.lent.Lent.new.Reads as lent-Lent-new-reads
+use Rattle.inspect_run.proofs.fixture.Fixture.new.Reads as fixture-Fixture-new-reads
 use Rattle.inspect_run.proofs.lines.Reader.new.Reads as lines-Reader-new-reads
 
 abbrev Inv-loop : tie.InvT-loop
-Inv-loop input₀ line₀ out₀ at lent₀ reader₀ end₀ number₀ input line out lent reader end number =
+Inv-loop input₀ line₀ out₀ at fixture₀ reader₀ end₀ number₀ input line out fixture reader end number =
     (length input ≡ length input₀)
     × (length line ≡ 65)
     × Waits out end
-    × Sized lent
+    × Sized fixture
     × Reading (length input) reader
     × (number ≤ 60001)
 
 abbrev μ-loop : tie.MeasureT-loop
-μ-loop input₀ line₀ out₀ at lent₀ reader₀ end₀ number₀ input line out lent reader end number = 60001 - number
+μ-loop input₀ line₀ out₀ at fixture₀ reader₀ end₀ number₀ input line out fixture reader end number = 60001 - number
 
 new-requires : tie.Need-new-requires Inv-loop μ-loop
 new-requires c κs = search needs

@@ -16,7 +16,7 @@ use Rattle.model.specs.Valid.{sameWords}
 use Rattle.model.specs.Disk.{diskBitmap, diskMatches}
 use Rattle.model.proofs.Laws.Writes.{words-same}
 use Rattle.model.proofs.Laws.Entries.{changes-length}
-use Rattle.journal.specs.Matching.{headIs, wordsMatch, lengthAfter, mendedAfter}
+use Rattle.journal.specs.Matching.{headIs, wordsMatch, lengthAfter, checkpointedAfter}
 use Rattle.disk_log.proofs.Laws.Tests.{and-left, and-right, and-none}
 use Rattle.model.proofs.Laws.Shape.{Shaped}
 use Rattle.journal.proofs.Laws.Memory.{CommitInHand}
@@ -47,7 +47,7 @@ module _ (memory : Memory) (disk : List ℕ) (s done due : ℕ)
     (l : length disk ≡ diskWords) (shape : Shaped memory) (hand : CommitInHand memory s done due) where
   commit-parts : diskMatches memory disk (Commit s done due)
       ≡ (headIs disk (memory .blocks) (lengthAfter ((due - 2) / 3) done)
-      && wordsMatch disk done (mendedAfter ((due - 2) / 3) done) 0 0 (memory .sam .words) (committedSam memory s .words))
+      && wordsMatch disk done (checkpointedAfter ((due - 2) / 3) done) 0 0 (memory .sam .words) (committedSam memory s .words))
   unfolding diskMatches entriesOf changedOf
   commit-parts =
       let d : (due - 2) / 3 ≡ changedOf memory s = omega (arith, hand .due-is) in
@@ -68,15 +68,15 @@ module _ (memory : Memory) (disk : List ℕ) (s done due : ℕ)
   commit-stop entries head e h f =
       commit-parts ∙ and-none _ (ap (headIs disk (memory .blocks)) (sym e) ∙ sym h ∙ f)
 
-  pub commit-go : (entries mended : ℕ) (new : List ℕ) (head words : Bool)
+  pub commit-go : (entries checkpointed : ℕ) (new : List ℕ) (head words : Bool)
       → entries ≡ lengthAfter ((due - 2) / 3) done
       → head ≡ headIs disk (memory .blocks) entries
       → head ≡ true
-      → mended ≡ mendedAfter ((due - 2) / 3) done
+      → checkpointed ≡ checkpointedAfter ((due - 2) / 3) done
       → new ≡ committedSam memory s .words
-      → words ≡ wordsMatch disk done mended 0 0 (memory .sam .words) new
+      → words ≡ wordsMatch disk done checkpointed 0 0 (memory .sam .words) new
       → diskMatches memory disk (Commit s done due) ≡ words
-  commit-go entries mended new head words e h t m n w =
+  commit-go entries checkpointed new head words e h t m n w =
       commit-parts
       ∙ and-left _ (ap (headIs disk (memory .blocks)) (sym e) ∙ sym h ∙ t)
       ∙ ap₂ (λ (x : ℕ) (y : List ℕ). wordsMatch disk done x 0 0 (memory .sam .words) y) (sym m) (sym n)

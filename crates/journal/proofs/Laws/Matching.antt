@@ -18,9 +18,9 @@ use Rattle.model.proofs.Laws.Writes.{length-writes}
 use Rattle.model.proofs.Laws.Entries.{length-logStores, changes-length}
 use Rattle.model.proofs.Laws.DiskParts.{disk-parts, disk-bitmap-length, disk-log-length}
 use Rattle.model.proofs.Laws.CommitLog.{CommitFrom, changes-from, commitDisk, commit-before, commit-after}
-use Rattle.journal.specs.Matching.{entryWritten, mendedWord, wordMatches, wordsMatch, lengthAfter, mendedAfter}
+use Rattle.journal.specs.Matching.{entryWritten, checkpointedWord, wordMatches, wordsMatch, lengthAfter, checkpointedAfter}
 use Rattle.disk_log.proofs.Laws.Tests.{and-assoc, and-exchange, same-append}
-use Rattle.journal.proofs.Laws.MendedWords.{mend, mended-same, mended-from, mend-changes}
+use Rattle.journal.proofs.Laws.Checkpointed.{checkpoint, checkpointed-same, checkpointed-from, checkpoint-changes}
 use Rattle.journal.proofs.Laws.LogWords.{logMatches, log-matches}
 
 -- a part of the disk's bitmap, by its first word
@@ -31,15 +31,15 @@ part-first disk k n h =
     ∙ (let e : bitmapAt + suc k ≡ suc (bitmapAt + k) = omega arith in rw e)
 
 -- the words' tests are those of the bitmap and of the log
-words-match : (disk : List ℕ) (done mended k i : ℕ) (olds news : List ℕ) → length olds ≡ length news → bitmapAt + k + length olds ≤ length disk
-    → wordsMatch disk done mended k i olds news
-    ≡ (sameWords (take (length olds) (drop (bitmapAt + k) disk)) (mend (mended - i) olds news) && logMatches disk done i (changesFrom k olds news))
-unfolding wordsMatch mend logMatches changesFrom sameWords wordMatches
-words-match disk done mended k i [] news l h = refl
-words-match disk done mended k i (old ∷ olds) [] l h = absurd (omega arith)
-words-match disk done mended k i (old ∷ olds) (new ∷ news) l h =
+words-match : (disk : List ℕ) (done checkpointed k i : ℕ) (olds news : List ℕ) → length olds ≡ length news → bitmapAt + k + length olds ≤ length disk
+    → wordsMatch disk done checkpointed k i olds news
+    ≡ (sameWords (take (length olds) (drop (bitmapAt + k) disk)) (checkpoint (checkpointed - i) olds news) && logMatches disk done i (changesFrom k olds news))
+unfolding wordsMatch checkpoint logMatches changesFrom sameWords wordMatches
+words-match disk done checkpointed k i [] news l h = refl
+words-match disk done checkpointed k i (old ∷ olds) [] l h = absurd (omega arith)
+words-match disk done checkpointed k i (old ∷ olds) (new ∷ news) l h =
     rw (part-first disk k (length olds) (omega arith))
-    (go (eqb old new) refl (λ j. words-match disk done mended (suc k) j olds news (omega arith) (omega arith)))
+    (go (eqb old new) refl (λ j. words-match disk done checkpointed (suc k) j olds news (omega arith) (omega arith)))
   where
     x : ℕ
     x = getD disk (bitmapAt + k) 0
@@ -51,19 +51,19 @@ words-match disk done mended k i (old ∷ olds) (new ∷ news) l h =
     later = changesFrom (suc k) olds news
 
     go : (t : Bool) → eqb old new ≡ t
-        → ((j : ℕ) → wordsMatch disk done mended (suc k) j olds news ≡ (sameWords rest (mend (mended - j) olds news) && logMatches disk done j later))
-        → (cond t (eqb x old) (eqb x (mendedWord mended i old new) && entryWritten disk done i k new) && wordsMatch disk done mended (suc k) (i + cond t 0 1) olds news)
-        ≡ ((eqb x (mendedWord (mended - i) 0 old new) && sameWords rest (mend (mended - i - cond t 0 1) olds news)) && logMatches disk done i (cond t later (k ≔ new ∷ later)))
+        → ((j : ℕ) → wordsMatch disk done checkpointed (suc k) j olds news ≡ (sameWords rest (checkpoint (checkpointed - j) olds news) && logMatches disk done j later))
+        → (cond t (eqb x old) (eqb x (checkpointedWord checkpointed i old new) && entryWritten disk done i k new) && wordsMatch disk done checkpointed (suc k) (i + cond t 0 1) olds news)
+        ≡ ((eqb x (checkpointedWord (checkpointed - i) 0 old new) && sameWords rest (checkpoint (checkpointed - i - cond t 0 1) olds news)) && logMatches disk done i (cond t later (k ≔ new ∷ later)))
     go true e ih =
-        rw (add-zero i, ih i, mended-same (mended - i) old new (eqb-true old new e), sub-zero (mended - i))
-        (sym (and-assoc (eqb x old) (sameWords rest (mend (mended - i) olds news)) (logMatches disk done i later)))
+        rw (add-zero i, ih i, checkpointed-same (checkpointed - i) old new (eqb-true old new e), sub-zero (checkpointed - i))
+        (sym (and-assoc (eqb x old) (sameWords rest (checkpoint (checkpointed - i) olds news)) (logMatches disk done i later)))
     go false e ih =
-        let less : mended - (i + 1) ≡ mended - i - 1 = omega arith in
-        rw (mended-from mended i old new, ih (i + 1), less, add-one i)
+        let less : checkpointed - (i + 1) ≡ checkpointed - i - 1 = omega arith in
+        rw (checkpointed-from checkpointed i old new, ih (i + 1), less, add-one i)
         (and-exchange
-        (eqb x (mendedWord (mended - i) 0 old new))
+        (eqb x (checkpointedWord (checkpointed - i) 0 old new))
         (entryWritten disk done i k new)
-        (sameWords rest (mend (mended - i - 1) olds news))
+        (sameWords rest (checkpoint (checkpointed - i - 1) olds news))
         (logMatches disk done (suc i) later))
 
 -- ---- the whole disk
@@ -82,7 +82,7 @@ disk-same disk blocks p words log l m =
 -- the disk after any number of a commit's stores but all, by its parts
 commit-parts : (blocks : ℕ) (sam log : List ℕ) (es : List Store) (done : ℕ) → CommitFrom sam log es → done < 3 * length es + 2
     → commitDisk blocks sam log es done
-    ≡ diskOf blocks (lengthAfter (length es) done) (writes (take (mendedAfter (length es) done) es) sam) (writes (take done (logStores 0 es)) log)
+    ≡ diskOf blocks (lengthAfter (length es) done) (writes (take (checkpointedAfter (length es) done) es) sam) (writes (take done (logStores 0 es)) log)
 unfolding writes
 commit-parts blocks sam log es done from h = go (leb done (2 * length es)) refl
   where
@@ -90,7 +90,7 @@ commit-parts blocks sam log es done from h = go (leb done (2 * length es)) refl
     d = length es
 
     go : (t : Bool) → leb done (2 * d) ≡ t → commitDisk blocks sam log es done
-        ≡ diskOf blocks (cond t 0 d) (writes (take (mendedAfter d done) es) sam) (writes (take done (logStores 0 es)) log)
+        ≡ diskOf blocks (cond t 0 d) (writes (take (checkpointedAfter d done) es) sam) (writes (take done (logStores 0 es)) log)
     go true e =
         let none : done - (2 * d + 1) ≡ 0 = omega (arith, leb-true done (2 * d) e) in
         commit-before blocks sam log es from done (leb-true done (2 * d) e) ∙ rw none
@@ -103,17 +103,17 @@ pub commit-matches : (blocks : ℕ) (disk sam new : List ℕ) (done : ℕ) → l
     → done < 3 * length (changes sam new) + 2
     → sameWords disk (commitDisk blocks sam (drop logAt disk) (changes sam new) done)
     ≡ ((eqb (diskBlocks disk) blocks && eqb (logLength disk) (lengthAfter (length (changes sam new)) done))
-    && wordsMatch disk done (mendedAfter (length (changes sam new)) done) 0 0 sam new)
+    && wordsMatch disk done (checkpointedAfter (length (changes sam new)) done) 0 0 sam new)
 commit-matches blocks disk sam new done l s n h =
     ap (sameWords disk) (commit-parts blocks sam log es done (changes-from sam new log s (disk-log-length disk l)) h)
     ∙ disk-same
     disk
     blocks
     (lengthAfter (length es) done)
-    (writes (take mended es) sam)
+    (writes (take checkpointed es) sam)
     (writes (take done (logStores 0 es)) log)
     l
-    (length-writes (take mended es) sam ∙ s)
+    (length-writes (take checkpointed es) sam ∙ s)
     ∙ ap (λ (t : Bool). (eqb (diskBlocks disk) blocks && eqb (logLength disk) (lengthAfter (length es) done)) && t) (sym words)
   where
     log : List ℕ
@@ -122,16 +122,16 @@ commit-matches blocks disk sam new done l s n h =
     es : List Store
     es = changes sam new
 
-    mended : ℕ
-    mended = mendedAfter (length es) done
+    checkpointed : ℕ
+    checkpointed = checkpointedAfter (length es) done
 
-    words : wordsMatch disk done mended 0 0 sam new ≡ (sameWords (diskBitmap disk) (writes (take mended es) sam) && sameWords log (writes (take done (logStores 0 es)) log))
+    words : wordsMatch disk done checkpointed 0 0 sam new ≡ (sameWords (diskBitmap disk) (writes (take checkpointed es) sam) && sameWords log (writes (take done (logStores 0 es)) log))
     words =
-        words-match disk done mended 0 0 sam new (s ∙ sym n) (omega arith)
+        words-match disk done checkpointed 0 0 sam new (s ∙ sym n) (omega arith)
         ∙ ap₂ _&&_
         (ap₂
         (λ (n : ℕ) (w : List ℕ). sameWords (take n (drop bitmapAt disk)) w)
         s
-        (ap (λ (n : ℕ). mend n sam new) (sub-zero mended) ∙ sym (mend-changes mended sam new)))
+        (ap (λ (n : ℕ). checkpoint n sam new) (sub-zero checkpointed) ∙ sym (checkpoint-changes checkpointed sam new)))
         (log-matches disk done 0 es (omega (arith, changes-length sam new))
         ∙ ap (λ (n : ℕ). sameWords log (writes (take n (logStores 0 es)) log)) (sub-zero done))

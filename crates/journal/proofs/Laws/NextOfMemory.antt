@@ -9,7 +9,7 @@ use Rattle.bitmap.specs.Sizes.{maxBlocks}
 use Rattle.model.specs.declared.memory.Memory.{Memory}
 use Rattle.model.specs.declared.memory.Pending.{Pending}
 use Rattle.model.specs.declared.memory.Pending.the-variants.{Nothing, Commit, Recovery}
-use Rattle.model.specs.Stores.{Store, writes, changes, commitStores, mendStores}
+use Rattle.model.specs.Stores.{Store, writes, changes, commitStores, checkpointStores}
 use Rattle.model.specs.Commit.{committedSam, entriesOf, changedOf}
 use Rattle.model.specs.Valid.{valid}
 use Rattle.model.specs.Disk.{diskBlocks, logLength, logEntries, logValid, dueStores, diskMatches}
@@ -62,7 +62,7 @@ module _ (memory : Memory) (disk : List ℕ) (place value : ℕ) where
   unfolding dueStores storesDone
   next-of-commit s done due e is = subst (λ (p : Pending). IsNext (dueStores memory disk p) (storesDone p) place value) (sym e) is
 
-  pub next-of-recovery : (done due : ℕ) → memory .pending ≡ Recovery done due → IsNext (mendStores (logEntries disk)) done place value
+  pub next-of-recovery : (done due : ℕ) → memory .pending ≡ Recovery done due → IsNext (checkpointStores (logEntries disk)) done place value
       → IsNext (dueStores memory disk (memory .pending)) (storesDone (memory .pending)) place value
   unfolding dueStores storesDone
   next-of-recovery done due e is = subst (λ (p : Pending). IsNext (dueStores memory disk p) (storesDone p) place value) (sym e) is

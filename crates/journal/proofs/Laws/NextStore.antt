@@ -9,7 +9,7 @@ use lib.ListN.{length, getD, take, drop, length-drop, length-map}
 use lib.Seq.{take-append-le, drop-append-le, drop-append-add, drop-at}
 use lib.Dec.{eqb}
 use Rattle.model.specs.Sizes.{diskWords, lengthAt, bitmapAt, logAt}
-use Rattle.model.specs.Stores.{Store, _≔_, logStores, onDisk, mendStores, commitStores}
+use Rattle.model.specs.Stores.{Store, _≔_, logStores, onDisk, checkpointStores, commitStores}
 use Rattle.model.specs.Disk.{diskBlocks, logLength, logEntries, logValid}
 use Rattle.model.proofs.Laws.Entries.{length-logStores}
 use Rattle.journal.specs.Next.{IsNext}
@@ -37,19 +37,19 @@ first-there zero (x ∷ es) e p = omega arith
 first-there (suc n) [] e p = absurd (let z : _≡_ {A = ℕ} 0 1 = ap length p in omega arith)
 first-there (suc n) (x ∷ es) e p = let h : n < length es = first-there n es e p in omega arith
 
--- ---- the stores that mend the bitmap
+-- ---- the stores that checkpoint the bitmap
 
 -- a logged word
-pub mend-word : (n : ℕ) (es : List Store) (e : Store) → take 1 (drop n es) ≡ e ∷ []
-    → take 1 (drop n (mendStores es)) ≡ (bitmapAt + e .place) ≔ e .value ∷ []
-unfolding mendStores
-mend-word n es e p =
+pub checkpoint-word : (n : ℕ) (es : List Store) (e : Store) → take 1 (drop n es) ≡ e ∷ []
+    → take 1 (drop n (checkpointStores es)) ≡ (bitmapAt + e .place) ≔ e .value ∷ []
+unfolding checkpointStores
+checkpoint-word n es e p =
     first-left n (map onDisk es) (lengthAt ≔ 0 ∷ []) (omega (arith, first-there n es e p, length-map es onDisk)) ∙ first-map n onDisk es e p
 
 -- word 1 to 0
-pub mend-last : (n : ℕ) (es : List Store) → n ≡ length es → take 1 (drop n (mendStores es)) ≡ lengthAt ≔ 0 ∷ []
-unfolding mendStores
-mend-last n es e = ap (take 1) (drop-at (map onDisk es) (lengthAt ≔ 0 ∷ []) n (length-map es onDisk ∙ sym e))
+pub checkpoint-last : (n : ℕ) (es : List Store) → n ≡ length es → take 1 (drop n (checkpointStores es)) ≡ lengthAt ≔ 0 ∷ []
+unfolding checkpointStores
+checkpoint-last n es e = ap (take 1) (drop-at (map onDisk es) (lengthAt ≔ 0 ∷ []) n (length-map es onDisk ∙ sym e))
 
 -- ---- the stores of the log
 
@@ -71,7 +71,7 @@ log-word at (suc (suc n)) (x ∷ es) e p =
 module _ (es : List Store) where
   -- the stores behind those of the log
   abbrev rest : List Store
-  rest = lengthAt ≔ length es ∷ mendStores es
+  rest = lengthAt ≔ length es ∷ checkpointStores es
 
   -- in the log: an entry's number, then its contents
   pub next-log : (done : ℕ) (e : Store) → take 1 (drop (done / 2) es) ≡ e ∷ []
@@ -86,7 +86,7 @@ module _ (es : List Store) where
   next-point done e = ap (take 1) (drop-at (logStores logAt es) rest done (length-logStores logAt es ∙ sym e))
 
   -- behind the commit point
-  behind-point : (done i : ℕ) → done ≡ 2 * length es + 1 + i → drop done (commitStores es) ≡ drop i (mendStores es)
+  behind-point : (done i : ℕ) → done ≡ 2 * length es + 1 + i → drop done (commitStores es) ≡ drop i (checkpointStores es)
   unfolding commitStores
   behind-point done i e =
       let n : done ≡ length (logStores logAt es) + suc i = omega (arith, length-logStores logAt es) in
@@ -95,11 +95,11 @@ module _ (es : List Store) where
   -- a changed word
   pub next-word : (done i : ℕ) (e : Store) → done ≡ 2 * length es + 1 + i → take 1 (drop i es) ≡ e ∷ []
       → take 1 (drop done (commitStores es)) ≡ (bitmapAt + e .place) ≔ e .value ∷ []
-  next-word done i e n p = ap (take 1) (behind-point done i n) ∙ mend-word i es e p
+  next-word done i e n p = ap (take 1) (behind-point done i n) ∙ checkpoint-word i es e p
 
   -- word 1 to 0
   pub next-last : (done i : ℕ) → done ≡ 2 * length es + 1 + i → i ≡ length es → take 1 (drop done (commitStores es)) ≡ lengthAt ≔ 0 ∷ []
-  next-last done i n e = ap (take 1) (behind-point done i n) ∙ mend-last i es e
+  next-last done i n e = ap (take 1) (behind-point done i n) ∙ checkpoint-last i es e
 
 -- ---- the stores of a recovery
 
@@ -108,14 +108,14 @@ module _ (disk : List ℕ) (l : length disk ≡ diskWords) (b : diskBlocks disk 
   pub recovery-word : (done number contents : ℕ) → done < logLength disk
       → number ≡ getD disk (logAt + 2 * done) 0
       → contents ≡ getD disk (logAt + 2 * done + 1) 0
-      → IsNext (mendStores (logEntries disk)) done (bitmapAt + number) contents
+      → IsNext (checkpointStores (logEntries disk)) done (bitmapAt + number) contents
   recovery-word done number contents h n c =
       record {
         within = omega (arith, place-below disk done l b v h);
-        next = mend-word done (logEntries disk) (number ≔ contents) (rw (entry-at disk done l (entries-few disk b v) h, n, c));
+        next = checkpoint-word done (logEntries disk) (number ≔ contents) (rw (entry-at disk done l (entries-few disk b v) h, n, c));
       }
 
   -- word 1 to 0
-  pub recovery-last : (done : ℕ) → done ≡ logLength disk → IsNext (mendStores (logEntries disk)) done lengthAt 0
+  pub recovery-last : (done : ℕ) → done ≡ logLength disk → IsNext (checkpointStores (logEntries disk)) done lengthAt 0
   recovery-last done e =
-      record { within = omega arith; next = mend-last done (logEntries disk) (e ∙ sym (entries-count disk l (entries-few disk b v))) }
+      record { within = omega arith; next = checkpoint-last done (logEntries disk) (e ∙ sym (entries-count disk l (entries-few disk b v))) }

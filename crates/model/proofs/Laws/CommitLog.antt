@@ -12,12 +12,12 @@ use lib.Seq.{take-append-le, take-append-add, take-all}
 use Rattle.bitmap.specs.Sizes.{wordsFor}
 use Rattle.bitmap.specs.Bits.{noBitsFrom}
 use Rattle.model.specs.Sizes.{lengthAt, logAt}
-use Rattle.model.specs.Stores.{Store, _≔_, writes, after, changes, logStores, onDisk, mendStores, commitStores}
+use Rattle.model.specs.Stores.{Store, _≔_, writes, after, changes, logStores, onDisk, checkpointStores, commitStores}
 use Rattle.model.specs.Disk.{diskBlocks, logLength, diskBitmap, diskOf, entriesIn, logEntries, entriesValid, durable}
 use Rattle.model.specs.Calls.Opening.{openError}
 use Rattle.model.proofs.Laws.Writes.{writes-append, length-writes, writes-take-again, writes-twice}
-use Rattle.model.proofs.Laws.Entries.{Places, places-take, changes-places, changes-length, length-logStores, length-commitStores, take-mendStores, writes-log, writes-log-all, entries-logged, writes-noBits, writes-take-noBits}
-use Rattle.model.proofs.Laws.DiskParts.{diskOf-bitmap, diskOf-log, diskOf-entries, diskOf-durable, diskOf-length, diskOf-opens, writes-onDisk, writes-mend}
+use Rattle.model.proofs.Laws.Entries.{Places, places-take, changes-places, changes-length, length-logStores, length-commitStores, take-checkpointStores, writes-log, writes-log-all, entries-logged, writes-noBits, writes-take-noBits}
+use Rattle.model.proofs.Laws.DiskParts.{diskOf-bitmap, diskOf-log, diskOf-entries, diskOf-durable, diskOf-length, diskOf-opens, writes-onDisk, writes-checkpoint}
 
 -- what a commit starts from: the old bitmap, the log words, and the entries that it writes
 pub record CommitFrom (sam log : List ℕ) (es : List Store) : Type 0 where
@@ -54,7 +54,7 @@ module _ (blocks : ℕ) (sam log : List ℕ) (es : List Store) (from : CommitFro
   commit-before k h =
       ap
       (λ (s : List Store). writes s (diskOf blocks 0 sam log))
-      (take-append-le k (logStores logAt es) (lengthAt ≔ length es ∷ mendStores es) (omega (arith, length-logStores logAt es)))
+      (take-append-le k (logStores logAt es) (lengthAt ≔ length es ∷ checkpointStores es) (omega (arith, length-logStores logAt es)))
       ∙ writes-log (blocks ∷ 0 ∷ sam) logAt k es log front
 
   -- the log and the commit point
@@ -70,8 +70,8 @@ module _ (blocks : ℕ) (sam log : List ℕ) (es : List Store) (from : CommitFro
   commit-later j h =
       ap
       (λ (s : List Store). writes s (diskOf blocks 0 sam log))
-      (take-append-add (logStores logAt es) (lengthAt ≔ length es ∷ mendStores es) (suc j)
-      ∙ ap (λ (s : List Store). logStores logAt es ++ (lengthAt ≔ length es ∷ s)) (take-mendStores j es h))
+      (take-append-add (logStores logAt es) (lengthAt ≔ length es ∷ checkpointStores es) (suc j)
+      ∙ ap (λ (s : List Store). logStores logAt es ++ (lengthAt ≔ length es ∷ s)) (take-checkpointStores j es h))
       ∙ commit-point (map onDisk (take j es))
       ∙ writes-onDisk blocks (length es) sam (logged log es) (take j es) (from .sam-length) (places-take 128 j es (from .places))
 
@@ -86,8 +86,8 @@ module _ (blocks : ℕ) (sam log : List ℕ) (es : List Store) (from : CommitFro
   unfolding commitStores
   commit-end k h =
       ap (λ (s : List Store). writes s (diskOf blocks 0 sam log)) (take-all k (commitStores es) (omega (arith, length-commitStores es)))
-      ∙ commit-point (mendStores es)
-      ∙ writes-mend blocks (length es) sam (logged log es) es (from .sam-length) (from .places)
+      ∙ commit-point (checkpointStores es)
+      ∙ writes-checkpoint blocks (length es) sam (logged log es) es (from .sam-length) (from .places)
 
   -- every k is before the commit point, from it on, or at the end
   by-phase : (P : List ℕ → Type 0) (k : ℕ)

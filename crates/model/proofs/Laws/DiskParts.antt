@@ -14,7 +14,7 @@ use Rattle.bitmap.specs.Bits.{noBitsFrom}
 use Rattle.model.specs.Types.{Error}
 use Rattle.model.specs.Errors.{Cause, first, firstOr}
 use Rattle.model.specs.Sizes.{diskWords, lengthAt, bitmapAt, logAt}
-use Rattle.model.specs.Stores.{Store, _≔_, writes, onDisk, mendStores}
+use Rattle.model.specs.Stores.{Store, _≔_, writes, onDisk, checkpointStores}
 use Rattle.model.specs.Valid.{blocksInRange}
 use Rattle.model.specs.Disk.{diskBlocks, logLength, diskBitmap, diskOf, entriesIn, logEntries, entriesValid, logValid, durable}
 use Rattle.model.specs.Causes.{diskLengthWrong, diskBlocksWrong, diskBitmapWrong, diskLogWrong}
@@ -163,9 +163,9 @@ writes-onDisk blocks p words log es l places =
     ∙ ap {B = List ℕ} (λ r. blocks ∷ p ∷ r) (writes-append-left 128 es words log l places)
 
 -- the bitmap words, and word 1 to 0
-pub writes-mend : (blocks p : ℕ) (words log : List ℕ) (es : List Store) → length words ≡ 128 → Places 128 es → writes (mendStores es) (diskOf blocks p words log) ≡ diskOf blocks 0 (writes es words) log
-unfolding mendStores writes
-writes-mend blocks p words log es l places =
+pub writes-checkpoint : (blocks p : ℕ) (words log : List ℕ) (es : List Store) → length words ≡ 128 → Places 128 es → writes (checkpointStores es) (diskOf blocks p words log) ≡ diskOf blocks 0 (writes es words) log
+unfolding checkpointStores writes
+writes-checkpoint blocks p words log es l places =
     writes-append (map onDisk es) (lengthAt ≔ 0 ∷ []) (diskOf blocks p words log)
     ∙ ap (λ (w : List ℕ). set w lengthAt 0) (writes-onDisk blocks p words log es l places)
 

@@ -13,7 +13,7 @@ use borrow.Author.Tests.{ltb-true, leb-true, eqb-false, eq-eqb, lt-ltb, le-leb}
 use Rattle.bitmap.specs.Sizes.{wordsFor}
 use Rattle.bitmap.specs.Bits.{noBitsFrom}
 use Rattle.model.specs.Sizes.{lengthAt}
-use Rattle.model.specs.Stores.{Store, _≔_, writes, changesFrom, changes, logStores, onDisk, mendStores, commitStores}
+use Rattle.model.specs.Stores.{Store, _≔_, writes, changesFrom, changes, logStores, onDisk, checkpointStores, commitStores}
 use Rattle.model.specs.Disk.{entriesIn, entriesValid, entriesAgree}
 use Rattle.model.proofs.Laws.Writes.{and-both, and-first, and-second}
 
@@ -24,13 +24,13 @@ unfolding logStores
 length-logStores at [] = refl
 length-logStores at (e ∷ es) = omega (arith, length-logStores (at + 2) es)
 
-pub length-mendStores : (es : List Store) → length (mendStores es) ≡ length es + 1
-unfolding mendStores
-length-mendStores es = length-append (map onDisk es) (lengthAt ≔ 0 ∷ []) ∙ ap (λ (n : ℕ). n + 1) (length-map es onDisk)
+pub length-checkpointStores : (es : List Store) → length (checkpointStores es) ≡ length es + 1
+unfolding checkpointStores
+length-checkpointStores es = length-append (map onDisk es) (lengthAt ≔ 0 ∷ []) ∙ ap (λ (n : ℕ). n + 1) (length-map es onDisk)
 
 pub length-commitStores : (es : List Store) → length (commitStores es) ≡ 3 * length es + 2
 unfolding commitStores
-length-commitStores es = simp (length-append, length-logStores, length-mendStores) (omega arith)
+length-commitStores es = simp (length-append, length-logStores, length-checkpointStores) (omega arith)
 
 -- every entry's place is below n
 abbrev pub Places : ℕ → List Store → Type 0
@@ -315,10 +315,10 @@ take-map f zero s = refl
 take-map f (suc k) [] = refl
 take-map f (suc k) (e ∷ s) = ap {B = List Store} (λ r. f e ∷ r) (take-map f k s)
 
--- the first stores that mend the bitmap
-pub take-mendStores : (k : ℕ) (es : List Store) → k ≤ length es → take k (mendStores es) ≡ map onDisk (take k es)
-unfolding mendStores
-take-mendStores k es h =
+-- the first stores that checkpoint the bitmap
+pub take-checkpointStores : (k : ℕ) (es : List Store) → k ≤ length es → take k (checkpointStores es) ≡ map onDisk (take k es)
+unfolding checkpointStores
+take-checkpointStores k es h =
     take-append-le k (map onDisk es) (lengthAt ≔ 0 ∷ []) (omega (arith, length-map es onDisk)) ∙ take-map onDisk k es
 
 -- the log's stores, wherever the log starts

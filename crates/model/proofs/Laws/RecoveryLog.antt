@@ -11,18 +11,18 @@ use lib.Seq.{take-all}
 use Rattle.bitmap.specs.Bits.{noBitsFrom}
 use Rattle.model.specs.Types.{Memory}
 use Rattle.model.specs.Sizes.{logAt}
-use Rattle.model.specs.Stores.{Store, writes, after, onDisk, mendStores}
+use Rattle.model.specs.Stores.{Store, writes, after, onDisk, checkpointStores}
 use Rattle.model.specs.Disk.{diskBlocks, logLength, diskBitmap, diskOf, entriesIn, logEntries, entriesValid, durable, entriesAgree, recoveryMatches}
 use Rattle.model.specs.Calls.Opening.{openError}
 use Rattle.model.proofs.Laws.Writes.{length-writes, writes-take-again, writes-take-drop, store-next-one}
-use Rattle.model.proofs.Laws.Entries.{Places, places-take, valid-places, length-mendStores, take-mendStores, length-entriesIn, entries-agree, writes-noBits, writes-take-noBits}
-use Rattle.model.proofs.Laws.DiskParts.{diskOf-bitmap, diskOf-entries, diskOf-durable, diskOf-opens, disk-parts, disk-bitmap-length, disk-log-length, writes-onDisk, writes-mend, log-valid}
+use Rattle.model.proofs.Laws.Entries.{Places, places-take, valid-places, length-checkpointStores, take-checkpointStores, length-entriesIn, entries-agree, writes-noBits, writes-take-noBits}
+use Rattle.model.proofs.Laws.DiskParts.{diskOf-bitmap, diskOf-entries, diskOf-durable, diskOf-opens, disk-parts, disk-bitmap-length, disk-log-length, writes-onDisk, writes-checkpoint, log-valid}
 use Rattle.model.proofs.Laws.Matching.{parts-matching}
 pub use Rattle.model.proofs.Laws.DiskParts.{Opens, opens-parts, parts-open}
 
 -- the disk after k stores of its recovery
 abbrev pub recoveryDisk : List ℕ → ℕ → List ℕ
-recoveryDisk disk k = after k (mendStores (logEntries disk)) disk
+recoveryDisk disk k = after k (checkpointStores (logEntries disk)) disk
 
 module _ (disk : List ℕ) (opens : openError disk ≡ none) where
   parts : Opens disk
@@ -57,9 +57,9 @@ module _ (disk : List ℕ) (opens : openError disk ≡ none) where
   durable-noBits = writes-noBits (diskBlocks disk) (logEntries disk) (diskBitmap disk) (parts .noBits) (parts .entries)
 
   -- the disk by its parts, before the last store
-  pub recovery-mending : (k : ℕ) → k ≤ logLength disk → recoveryDisk disk k ≡ diskOf (diskBlocks disk) (logLength disk) (writes (take k (logEntries disk)) (diskBitmap disk)) (drop logAt disk)
-  recovery-mending k h =
-      ap (λ (s : List Store). writes s disk) (take-mendStores k (logEntries disk) (omega (arith, entries-length)))
+  pub recovery-checkpointing : (k : ℕ) → k ≤ logLength disk → recoveryDisk disk k ≡ diskOf (diskBlocks disk) (logLength disk) (writes (take k (logEntries disk)) (diskBitmap disk)) (drop logAt disk)
+  recovery-checkpointing k h =
+      ap (λ (s : List Store). writes s disk) (take-checkpointStores k (logEntries disk) (omega (arith, entries-length)))
       ∙ ap (writes (map onDisk (take k (logEntries disk)))) disk-is
       ∙ writes-onDisk
       (diskBlocks disk)
@@ -76,43 +76,43 @@ module _ (disk : List ℕ) (opens : openError disk ≡ none) where
   recovery-end k h =
       ap
       (λ (s : List Store). writes s disk)
-      (take-all k (mendStores (logEntries disk)) (omega (arith, length-mendStores (logEntries disk), entries-length)))
-      ∙ ap (writes (mendStores (logEntries disk))) disk-is
-      ∙ writes-mend (diskBlocks disk) (logLength disk) (diskBitmap disk) (drop logAt disk) (logEntries disk) bitmap-length entries-places
+      (take-all k (checkpointStores (logEntries disk)) (omega (arith, length-checkpointStores (logEntries disk), entries-length)))
+      ∙ ap (writes (checkpointStores (logEntries disk))) disk-is
+      ∙ writes-checkpoint (diskBlocks disk) (logLength disk) (diskBitmap disk) (drop logAt disk) (logEntries disk) bitmap-length entries-places
 
   -- every k is before the last store or at the end
   by-phase : (P : List ℕ → Type 0) (k : ℕ)
       → (k ≤ logLength disk → P (diskOf (diskBlocks disk) (logLength disk) (writes (take k (logEntries disk)) (diskBitmap disk)) (drop logAt disk)))
       → P (diskOf (diskBlocks disk) 0 (durable disk) (drop logAt disk))
       → P (recoveryDisk disk k)
-  by-phase P k mending ended = go (decLe k (logLength disk))
+  by-phase P k checkpointing ended = go (decLe k (logLength disk))
     where
       go : Dec (k ≤ logLength disk) → P (recoveryDisk disk k)
-      go (yes h) = subst P (sym (recovery-mending k h)) (mending h)
+      go (yes h) = subst P (sym (recovery-checkpointing k h)) (checkpointing h)
       go (no h) = subst P (sym (recovery-end k (omega arith))) ended
 
   pub recovery-length : (k : ℕ) → length (recoveryDisk disk k) ≡ 386
-  recovery-length k = length-writes (take k (mendStores (logEntries disk))) disk ∙ parts .size
+  recovery-length k = length-writes (take k (checkpointStores (logEntries disk))) disk ∙ parts .size
 
   pub recovery-blocks : (k : ℕ) → diskBlocks (recoveryDisk disk k) ≡ diskBlocks disk
   recovery-blocks k = by-phase (λ (d : List ℕ). diskBlocks d ≡ diskBlocks disk) k (λ h. refl) refl
 
   -- before the last store
 
-  pub mending-logLength : (k : ℕ) → k ≤ logLength disk → logLength (recoveryDisk disk k) ≡ logLength disk
-  mending-logLength k h = ap (λ (d : List ℕ). logLength d) (recovery-mending k h)
+  pub checkpointing-logLength : (k : ℕ) → k ≤ logLength disk → logLength (recoveryDisk disk k) ≡ logLength disk
+  checkpointing-logLength k h = ap (λ (d : List ℕ). logLength d) (recovery-checkpointing k h)
 
-  pub mending-bitmap : (k : ℕ) → k ≤ logLength disk → diskBitmap (recoveryDisk disk k) ≡ writes (take k (logEntries disk)) (diskBitmap disk)
-  mending-bitmap k h =
+  pub checkpointing-bitmap : (k : ℕ) → k ≤ logLength disk → diskBitmap (recoveryDisk disk k) ≡ writes (take k (logEntries disk)) (diskBitmap disk)
+  checkpointing-bitmap k h =
       let some : List ℕ = writes (take k (logEntries disk)) (diskBitmap disk) in
-      ap (λ (d : List ℕ). diskBitmap d) (recovery-mending k h)
+      ap (λ (d : List ℕ). diskBitmap d) (recovery-checkpointing k h)
       ∙ diskOf-bitmap (diskBlocks disk) (logLength disk) some (drop logAt disk) (written-length (take k (logEntries disk)))
 
-  pub mending-entries : (k : ℕ) → k ≤ logLength disk → logEntries (recoveryDisk disk k) ≡ logEntries disk
+  pub checkpointing-entries : (k : ℕ) → k ≤ logLength disk → logEntries (recoveryDisk disk k) ≡ logEntries disk
   unfolding logEntries
-  mending-entries k h =
+  checkpointing-entries k h =
       let some : List ℕ = writes (take k (logEntries disk)) (diskBitmap disk) in
-      ap logEntries (recovery-mending k h)
+      ap logEntries (recovery-checkpointing k h)
       ∙ diskOf-entries (diskBlocks disk) (logLength disk) some (drop logAt disk) (written-length (take k (logEntries disk)))
 
   -- at the end
@@ -127,9 +127,9 @@ module _ (disk : List ℕ) (opens : openError disk ≡ none) where
 
   -- after any number of stores
 
-  mending-durable : (k : ℕ) → durable (diskOf (diskBlocks disk) (logLength disk) (writes (take k (logEntries disk)) (diskBitmap disk)) (drop logAt disk)) ≡ durable disk
+  checkpointing-durable : (k : ℕ) → durable (diskOf (diskBlocks disk) (logLength disk) (writes (take k (logEntries disk)) (diskBitmap disk)) (drop logAt disk)) ≡ durable disk
   unfolding durable logEntries
-  mending-durable k =
+  checkpointing-durable k =
       diskOf-durable
       (diskBlocks disk)
       (logLength disk)
@@ -143,7 +143,7 @@ module _ (disk : List ℕ) (opens : openError disk ≡ none) where
   ended-durable = diskOf-durable (diskBlocks disk) 0 (durable disk) (drop logAt disk) durable-length
 
   pub recovery-durable : (k : ℕ) → durable (recoveryDisk disk k) ≡ durable disk
-  recovery-durable k = by-phase (λ (d : List ℕ). durable d ≡ durable disk) k (λ h. mending-durable k) ended-durable
+  recovery-durable k = by-phase (λ (d : List ℕ). durable d ≡ durable disk) k (λ h. checkpointing-durable k) ended-durable
 
   pub recovery-opens : (k : ℕ) → openError (recoveryDisk disk k) ≡ none
   unfolding logEntries entriesIn entriesValid
@@ -178,10 +178,10 @@ module _ (disk : List ℕ) (opens : openError disk ≡ none) where
       refl)
 
   -- the next store of a recovery that reads the log anew
-  pub recovery-next : (k : ℕ) → k ≤ logLength disk → writes (take 1 (drop k (mendStores (logEntries (recoveryDisk disk k))))) (recoveryDisk disk k) ≡ recoveryDisk disk (k + 1)
+  pub recovery-next : (k : ℕ) → k ≤ logLength disk → writes (take 1 (drop k (checkpointStores (logEntries (recoveryDisk disk k))))) (recoveryDisk disk k) ≡ recoveryDisk disk (k + 1)
   recovery-next k h =
-      ap (λ (es : List Store). writes (take 1 (drop k (mendStores es))) (recoveryDisk disk k)) (mending-entries k h)
-      ∙ store-next-one k (mendStores (logEntries disk)) disk
+      ap (λ (es : List Store). writes (take 1 (drop k (checkpointStores es))) (recoveryDisk disk k)) (checkpointing-entries k h)
+      ∙ store-next-one k (checkpointStores (logEntries disk)) disk
 
   -- each logged place of the bitmap that the disk stands for holds its entry's value
   pub durable-agrees : entriesAgree (durable disk) (logEntries disk) ≡ true
@@ -196,18 +196,18 @@ module _ (disk : List ℕ) (opens : openError disk ≡ none) where
   -- the disk in recovery is as the memory and its stores done leave it
   pub recovery-matches : (memory : Memory) (k : ℕ) → k ≤ logLength disk → memory .blocks ≡ diskBlocks disk → memory .sam .words ≡ durable disk → recoveryMatches memory (recoveryDisk disk k) k (logLength disk + 1) ≡ true
   recovery-matches memory k h b s =
-      parts-matching memory mended k (logLength disk + 1)
+      parts-matching memory checkpointed k (logLength disk + 1)
       (record {
         blocks = recovery-blocks k ∙ sym b;
-        due-is = ap (λ (n : ℕ). n + 1) (mending-logLength k h);
-        log = log-valid mended (mended-parts .few-entries) (mended-parts .entries);
-        agrees = rw (s, mending-entries k h) durable-agrees;
-        noBits = ap (λ (n : ℕ). noBitsFrom n (diskBitmap mended)) (b ∙ sym (recovery-blocks k)) ∙ mended-parts .noBits;
-        rest = ap₂ (λ (es : List Store) (words : List ℕ). writes (drop k es) words) (mending-entries k h) (mending-bitmap k h) ∙ rewritten k ∙ sym s;
+        due-is = ap (λ (n : ℕ). n + 1) (checkpointing-logLength k h);
+        log = log-valid checkpointed (checkpointed-parts .few-entries) (checkpointed-parts .entries);
+        agrees = rw (s, checkpointing-entries k h) durable-agrees;
+        noBits = ap (λ (n : ℕ). noBitsFrom n (diskBitmap checkpointed)) (b ∙ sym (recovery-blocks k)) ∙ checkpointed-parts .noBits;
+        rest = ap₂ (λ (es : List Store) (words : List ℕ). writes (drop k es) words) (checkpointing-entries k h) (checkpointing-bitmap k h) ∙ rewritten k ∙ sym s;
       })
     where
-      mended : List ℕ
-      mended = recoveryDisk disk k
+      checkpointed : List ℕ
+      checkpointed = recoveryDisk disk k
 
-      mended-parts : Opens mended
-      mended-parts = opens-parts mended (recovery-opens k)
+      checkpointed-parts : Opens checkpointed
+      checkpointed-parts = opens-parts checkpointed (recovery-opens k)

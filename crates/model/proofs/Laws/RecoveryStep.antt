@@ -11,7 +11,7 @@ use lib.Seq.{drop-append-le, take-append-le, drop-append-seam, drop-drop}
 use Rattle.bitmap.specs.Bits.{noBitsFrom}
 use Rattle.model.specs.Types.{Memory}
 use Rattle.model.specs.Sizes.{logAt, lengthAt}
-use Rattle.model.specs.Stores.{Store, writes, onDisk, mendStores, _≔_}
+use Rattle.model.specs.Stores.{Store, writes, onDisk, checkpointStores, _≔_}
 use Rattle.model.specs.Valid.{sameWords}
 use Rattle.model.specs.Disk.{diskBlocks, logLength, diskBitmap, diskOf, entriesIn, logEntries, entriesValid, entriesAgree, durable}
 use Rattle.model.specs.Calls.Opening.{openError}
@@ -27,15 +27,15 @@ drop-map f (suc k) [] = refl
 drop-map f (suc k) (store ∷ stores) = drop-map f k stores
 
 -- the next store of a recovery: a logged word, or word 1
-next-word : (k : ℕ) (es : List Store) → k < length es → take 1 (drop k (mendStores es)) ≡ map onDisk (take 1 (drop k es))
-unfolding mendStores
+next-word : (k : ℕ) (es : List Store) → k < length es → take 1 (drop k (checkpointStores es)) ≡ map onDisk (take 1 (drop k es))
+unfolding checkpointStores
 next-word k es h =
     ap (take 1) (drop-append-le k (map onDisk es) (lengthAt ≔ 0 ∷ []) (omega (arith, length-map es onDisk)) ∙ ap (λ (l : List Store). l ++ (lengthAt ≔ 0 ∷ [])) (drop-map onDisk k es))
     ∙ take-append-le 1 (map onDisk (drop k es)) (lengthAt ≔ 0 ∷ []) (omega (arith, length-map (drop k es) onDisk, length-drop k es))
     ∙ take-map onDisk 1 (drop k es)
 
-next-end : (es : List Store) → take 1 (drop (length es) (mendStores es)) ≡ lengthAt ≔ 0 ∷ []
-unfolding mendStores
+next-end : (es : List Store) → take 1 (drop (length es) (checkpointStores es)) ≡ lengthAt ≔ 0 ∷ []
+unfolding checkpointStores
 next-end es =
     ap (take 1)
     (ap (λ (n : ℕ). drop n (map onDisk es ++ (lengthAt ≔ 0 ∷ []))) (sym (length-map es onDisk))
@@ -49,8 +49,8 @@ entry-again k es words =
     (writes-again (take k es) (take 1 (drop k es)) (drop 1 (drop k es)) words)
 
 -- the disk after the next store of a recovery with k of them done
-abbrev pub mendNext : List ℕ → ℕ → List ℕ
-mendNext disk k = writes (take 1 (drop k (mendStores (logEntries disk)))) disk
+abbrev pub checkpointNext : List ℕ → ℕ → List ℕ
+checkpointNext disk k = writes (take 1 (drop k (checkpointStores (logEntries disk)))) disk
 
 module _ (disk : List ℕ) (opens : openError disk ≡ none) where
   parts : Opens disk
@@ -73,32 +73,32 @@ module _ (disk : List ℕ) (opens : openError disk ≡ none) where
     abbrev one : List Store
     one = take 1 (drop k (logEntries disk))
 
-    mended : mendNext disk k ≡ diskOf (diskBlocks disk) (logLength disk) (writes one words) log
-    mended =
+    checkpointed : checkpointNext disk k ≡ diskOf (diskBlocks disk) (logLength disk) (writes one words) log
+    checkpointed =
         ap₂ writes (next-word k (logEntries disk) (omega (arith, entries-length disk opens))) whole
         ∙ writes-onDisk (diskBlocks disk) (logLength disk) words log one size
         (places-take 128 1 (drop k (logEntries disk)) (places-drop 128 k (logEntries disk) (valid-places (diskBlocks disk) 0 (logEntries disk) (parts .entries) (parts .few-blocks))))
 
-    mended-size : length (writes one words) ≡ 128
-    mended-size = length-writes one words ∙ size
+    checkpointed-size : length (writes one words) ≡ 128
+    checkpointed-size = length-writes one words ∙ size
 
     entries-there : entriesIn (logLength disk) log ≡ logEntries disk
     unfolding logEntries
     entries-there = refl
 
-    pub mended-opens : openError (mendNext disk k) ≡ none
-    mended-opens =
-        ap openError mended
-        ∙ diskOf-opens (diskBlocks disk) (logLength disk) (writes one words) log mended-size (disk-log-length disk (parts .size)) (parts .some-blocks) (parts .few-blocks)
+    pub checkpointed-opens : openError (checkpointNext disk k) ≡ none
+    checkpointed-opens =
+        ap openError checkpointed
+        ∙ diskOf-opens (diskBlocks disk) (logLength disk) (writes one words) log checkpointed-size (disk-log-length disk (parts .size)) (parts .some-blocks) (parts .few-blocks)
         (writes-noBits-from (diskBlocks disk) 0 one words (parts .noBits) (valid-take (diskBlocks disk) 0 1 (drop k (logEntries disk)) (valid-drop (diskBlocks disk) 0 k (logEntries disk) (parts .entries))))
         (parts .few-entries)
         (ap (entriesValid (diskBlocks disk) 0) entries-there ∙ parts .entries)
 
-    pub mended-durable : durable (mendNext disk k) ≡ durable disk
+    pub checkpointed-durable : durable (checkpointNext disk k) ≡ durable disk
     unfolding durable
-    mended-durable =
-        ap durable mended
-        ∙ diskOf-durable (diskBlocks disk) (logLength disk) (writes one words) log mended-size
+    checkpointed-durable =
+        ap durable checkpointed
+        ∙ diskOf-durable (diskBlocks disk) (logLength disk) (writes one words) log checkpointed-size
         ∙ ap (λ (es : List Store). writes es (writes one words)) entries-there
         ∙ entry-again k (logEntries disk) words
 
@@ -109,45 +109,45 @@ module _ (disk : List ℕ) (opens : openError disk ≡ none) where
         ∙ sym (writes-append one (drop 1 (drop k (logEntries disk))) words)
         ∙ ap (λ (es : List Store). writes es words) (take-append-drop 1 (drop k (logEntries disk)))
 
-    pub mended-matches : (memory : Memory) (due : ℕ) → RecoveryMatches memory disk k due → RecoveryMatches memory (mendNext disk k) (k + 1) due
-    mended-matches memory due m =
+    pub checkpointed-matches : (memory : Memory) (due : ℕ) → RecoveryMatches memory disk k due → RecoveryMatches memory (checkpointNext disk k) (k + 1) due
+    checkpointed-matches memory due m =
         record {
           blocks = blocks;
-          due-is = ap (λ (d : List ℕ). logLength d + 1) mended ∙ m .due-is;
-          log = log-valid (mendNext disk k) (after .few-entries) (after .entries);
+          due-is = ap (λ (d : List ℕ). logLength d + 1) checkpointed ∙ m .due-is;
+          log = log-valid (checkpointNext disk k) (after .few-entries) (after .entries);
           agrees = ap (entriesAgree (memory .sam .words)) entries ∙ m .agrees;
-          noBits = ap (λ (n : ℕ). noBitsFrom n (diskBitmap (mendNext disk k))) (sym blocks) ∙ after .noBits;
+          noBits = ap (λ (n : ℕ). noBitsFrom n (diskBitmap (checkpointNext disk k))) (sym blocks) ∙ after .noBits;
           rest =
               ap₂ (λ (es : List Store) (w : List ℕ). writes (drop (k + 1) es) w) entries
-              (ap (λ (d : List ℕ). diskBitmap d) mended ∙ diskOf-bitmap (diskBlocks disk) (logLength disk) (writes one words) log mended-size)
+              (ap (λ (d : List ℕ). diskBitmap d) checkpointed ∙ diskOf-bitmap (diskBlocks disk) (logLength disk) (writes one words) log checkpointed-size)
               ∙ one-fewer
               ∙ m .rest;
         }
       where
-        after : Opens (mendNext disk k)
-        after = opens-parts (mendNext disk k) mended-opens
+        after : Opens (checkpointNext disk k)
+        after = opens-parts (checkpointNext disk k) checkpointed-opens
 
-        blocks : diskBlocks (mendNext disk k) ≡ memory .blocks
-        blocks = ap (λ (d : List ℕ). diskBlocks d) mended ∙ m .blocks
+        blocks : diskBlocks (checkpointNext disk k) ≡ memory .blocks
+        blocks = ap (λ (d : List ℕ). diskBlocks d) checkpointed ∙ m .blocks
 
-        entries : logEntries (mendNext disk k) ≡ logEntries disk
-        entries = ap logEntries mended ∙ diskOf-entries (diskBlocks disk) (logLength disk) (writes one words) log mended-size ∙ entries-there
+        entries : logEntries (checkpointNext disk k) ≡ logEntries disk
+        entries = ap logEntries checkpointed ∙ diskOf-entries (diskBlocks disk) (logLength disk) (writes one words) log checkpointed-size ∙ entries-there
 
   -- ---- word 1 becomes 0
 
-  cleared : mendNext disk (logLength disk) ≡ diskOf (diskBlocks disk) 0 words log
+  cleared : checkpointNext disk (logLength disk) ≡ diskOf (diskBlocks disk) 0 words log
   unfolding writes
   cleared =
-      ap (mendNext disk) (sym (entries-length disk opens))
+      ap (checkpointNext disk) (sym (entries-length disk opens))
       ∙ ap₂ writes (next-end (logEntries disk)) whole
 
-  pub cleared-opens : openError (mendNext disk (logLength disk)) ≡ none
+  pub cleared-opens : openError (checkpointNext disk (logLength disk)) ≡ none
   unfolding entriesIn entriesValid
   cleared-opens =
       ap openError cleared
       ∙ diskOf-opens (diskBlocks disk) 0 words log size (disk-log-length disk (parts .size)) (parts .some-blocks) (parts .few-blocks) (parts .noBits) (omega arith) refl
 
-  pub cleared-durable : durable (mendNext disk (logLength disk)) ≡ diskBitmap disk
+  pub cleared-durable : durable (checkpointNext disk (logLength disk)) ≡ diskBitmap disk
   unfolding entriesIn writes
   cleared-durable = ap durable cleared ∙ diskOf-durable (diskBlocks disk) 0 words log size
 
@@ -160,7 +160,7 @@ module _ (disk : List ℕ) (opens : openError disk ≡ none) where
       ∙ m .rest
 
   pub cleared-matches : (memory : Memory) (due : ℕ) → RecoveryMatches memory disk (logLength disk) due
-      → sameWords (mendNext disk (logLength disk)) (diskOf (memory .blocks) 0 (memory .sam .words) (drop logAt (mendNext disk (logLength disk)))) ≡ true
+      → sameWords (checkpointNext disk (logLength disk)) (diskOf (memory .blocks) 0 (memory .sam .words) (drop logAt (checkpointNext disk (logLength disk)))) ≡ true
   cleared-matches memory due m =
-      ap₂ (λ (n : ℕ) (w : List ℕ). sameWords (mendNext disk (logLength disk)) (diskOf n 0 w (drop logAt (mendNext disk (logLength disk))))) (sym (m .blocks)) (sym (all-rewritten memory due m))
-      ∙ quiet-matches (mendNext disk (logLength disk)) (diskBlocks disk) words log size cleared
+      ap₂ (λ (n : ℕ) (w : List ℕ). sameWords (checkpointNext disk (logLength disk)) (diskOf n 0 w (drop logAt (checkpointNext disk (logLength disk))))) (sym (m .blocks)) (sym (all-rewritten memory due m))
+      ∙ quiet-matches (checkpointNext disk (logLength disk)) (diskBlocks disk) words log size cleared

@@ -26,7 +26,7 @@ use Rattle.model.proofs.Laws.Valid.{ValidParts, slot-below}
 use Rattle.model.proofs.Laws.Writes.{and-first}
 use Rattle.verdicts.specs.declared.verdict.Verdict.{Verdict}
 use Rattle.verdicts.specs.Verdicts.{verdict}
-use Rattle.verdicts.specs.Ready.{openCauses, openError}
+use Rattle.verdicts.specs.Ready.{openSlotCauses, openSlotError}
 use Rattle.touching.specs.Allocate.{countCauses, countError}
 use Rattle.verdicts.proofs.Laws.Verdicts.{cause-holds, cause-passed, no-cause, none-holds, none-rest, accepted-none, refused-some, refused-then, accepted-then}
 use Rattle.verdicts.proofs.Laws.Ready.{Ready, ready-of}
@@ -82,18 +82,18 @@ pub record CanAllocate (memory : Memory) (s count : ℕ) (list : List ℕ) : Typ
   pub enough : count ≤ length (available memory)
 
 module _ (memory : Memory) (s count : ℕ) (list : List ℕ) where
-  pub early-refused : (error : Error) → verdict (openError memory s) ≡ Verdict.Refused error → Verdict.Refused error ≡ verdict (allocateError memory s count list)
+  pub early-refused : (error : Error) → verdict (openSlotError memory s) ≡ Verdict.Refused error → Verdict.Refused error ≡ verdict (allocateError memory s count list)
   unfolding allocateError
-  early-refused error e = refused-then (openCauses memory s) _ error e
+  early-refused error e = refused-then (openSlotCauses memory s) _ error e
 
-  pub count-decides : verdict (openError memory s) ≡ Verdict.Accepted → countError memory count list ≡ allocateError memory s count list
+  pub count-decides : verdict (openSlotError memory s) ≡ Verdict.Accepted → countError memory count list ≡ allocateError memory s count list
   unfolding allocateError
-  count-decides e = sym (accepted-then (openCauses memory s) (countCauses memory count list) e)
+  count-decides e = sym (accepted-then (openSlotCauses memory s) (countCauses memory count list) e)
 
   pub can-allocate : verdict (allocateError memory s count list) ≡ Verdict.Accepted → CanAllocate memory s count list
   unfolding allocateError countOutOfRange listShort tooFewAvailable
   can-allocate e =
-      let rest : countError memory count list ≡ none = none-rest (openCauses memory s) (countCauses memory count list) (accepted-none _ e) in
+      let rest : countError memory count list ≡ none = none-rest (openSlotCauses memory s) (countCauses memory count list) (accepted-none _ e) in
       let h15 = none-holds (countOutOfRange count) CountRange _ rest in
       let h16 = none-holds (listShort list count) ListShort _ (h15 .1) in
       let h17 = none-holds (tooFewAvailable memory count) TooFewAvailable [] (h16 .1) in

@@ -22,7 +22,7 @@ use Rattle.bitops.specs.Block.{clearBit}
 use Rattle.bitops.proofs.Laws.Block.{clear-bitmap}
 use Rattle.verdicts.specs.declared.verdict.Verdict.{Verdict}
 use Rattle.verdicts.specs.Verdicts.{verdict}
-use Rattle.verdicts.specs.Ready.{openCauses, openError}
+use Rattle.verdicts.specs.Ready.{openSlotCauses, openSlotError}
 use Rattle.touching.specs.Deallocate.{blockCauses, blockError}
 use Rattle.verdicts.proofs.Laws.Verdicts.{cause-holds, cause-passed, no-cause, none-holds, none-rest, accepted-none, refused-then, accepted-then}
 use Rattle.verdicts.proofs.Laws.Ready.{Ready, ready-of}
@@ -59,13 +59,13 @@ module _ (memory : Memory) (b : ℕ) where
 -- ---- all causes
 
 module _ (memory : Memory) (s b : ℕ) where
-  pub unready-refused : (error : Error) → verdict (openError memory s) ≡ Verdict.Refused error → Verdict.Refused error ≡ verdict (deallocateError memory s b)
+  pub unready-refused : (error : Error) → verdict (openSlotError memory s) ≡ Verdict.Refused error → Verdict.Refused error ≡ verdict (deallocateError memory s b)
   unfolding deallocateError
-  unready-refused error e = refused-then (openCauses memory s) (blockCauses memory b) error e
+  unready-refused error e = refused-then (openSlotCauses memory s) (blockCauses memory b) error e
 
-  pub block-decides : verdict (openError memory s) ≡ Verdict.Accepted → blockError memory b ≡ deallocateError memory s b
+  pub block-decides : verdict (openSlotError memory s) ≡ Verdict.Accepted → blockError memory b ≡ deallocateError memory s b
   unfolding deallocateError
-  block-decides e = sym (accepted-then (openCauses memory s) (blockCauses memory b) e)
+  block-decides e = sym (accepted-then (openSlotCauses memory s) (blockCauses memory b) e)
 
   pub deallocate-ready : verdict (deallocateError memory s b) ≡ Verdict.Accepted → Ready memory s
   unfolding deallocateError
@@ -74,7 +74,7 @@ module _ (memory : Memory) (s b : ℕ) where
   pub block-below : verdict (deallocateError memory s b) ≡ Verdict.Accepted → b < memory .blocks
   unfolding deallocateError blockOutOfRange
   block-below e =
-      let block : blockError memory b ≡ none = none-rest (openCauses memory s) (blockCauses memory b) (accepted-none _ e) in
+      let block : blockError memory b ≡ none = none-rest (openSlotCauses memory s) (blockCauses memory b) (accepted-none _ e) in
       leb-false (memory .blocks) b (none-holds (blockOutOfRange memory b) BlockRange _ block .0)
 
 -- ---- the bitmaps

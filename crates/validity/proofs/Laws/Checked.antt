@@ -14,14 +14,14 @@ use Rattle.model.specs.declared.memory.Memory.{Memory}
 use Rattle.model.specs.Memory.{slotAt, isActive}
 use Rattle.model.specs.Valid.{blocksInRange, allSlots, slotValid, touchesAgree, pendingValid, valid}
 use Rattle.validity.specs.Touches.{Taken, wordsAgree}
-use Rattle.validity.specs.Pending.{commitFits}
+use Rattle.validity.specs.Pending.{commitValid}
 use Rattle.model.proofs.Laws.Shape.{Shaped}
 use Rattle.validity.proofs.Laws.Slots.{bool-ext, both, not-true-false}
 use Rattle.validity.proofs.Laws.Parts.{PartsBySlot, slots-each, range-parts, valid-parts, parts-valid}
 use Rattle.validity.proofs.Laws.Touches.{Counted}
 use Rattle.validity.proofs.Laws.Agree.{words-agree, valid-words}
 use Rattle.validity.proofs.Laws.Loop.{Passed, passed-all, taken-wrong}
-use Rattle.validity.proofs.Laws.Pending.{commit-fits, commit-past}
+use Rattle.validity.proofs.Laws.Pending.{commit-valid, commit-past}
 
 -- the first parts of `valid`
 abbrev pub volumeValid : Memory → Bool
@@ -107,11 +107,11 @@ module _ (memory : Memory) (some twice : List ℕ) (shape : Shaped memory) (volu
   checked-past s done due p l = checked-rest false (commit-past memory s done due shape l ∙ sym (ap (pendingValid memory) p))
 
   pub checked-commit : (s done due : ℕ) (r : Bool) → memory .pending ≡ Pending.Commit s done due
-      → r ≡ commitFits (slotAt memory s .state) (memory .sam .words) (memory .com .words) (slotAt memory s .tam .words) done due
+      → r ≡ commitValid (slotAt memory s .state) (memory .sam .words) (memory .com .words) (slotAt memory s .tam .words) done due
       → r ≡ valid memory
   checked-commit s done due r p e =
       checked-rest r
-      (e ∙ commit-fits memory s shape (checked-range .1) samNone comNone (bitmaps .1 s) done due ∙ sym (ap (pendingValid memory) p))
+      (e ∙ commit-valid memory s shape (checked-range .1) samNone comNone (bitmaps .1 s) done due ∙ sym (ap (pendingValid memory) p))
 
   pub checked-recovery : (done due : ℕ) (r : Bool) → memory .pending ≡ Pending.Recovery done due
       → r ≡ pendingValid memory (Pending.Recovery done due) → r ≡ valid memory

@@ -22,7 +22,7 @@ use Rattle.model.specs.Memory.{idleSlot, slotAt, isActive, isPrecommitted, volu
 use Rattle.model.specs.Stores.{Store, changes, changesFrom}
 use Rattle.model.specs.Commit.{committedSam, entriesOf, changedOf}
 use Rattle.model.specs.Valid.{sameWords, allSlots, isQuiet, pendingValid}
-use Rattle.validity.specs.Pending.{changedWords, commitFits}
+use Rattle.validity.specs.Pending.{changedWords, commitValid}
 use Rattle.validity.proofs.Laws.Slots.{both, and-both, not-true-false, allSlots-at, allSlots-all}
 use Rattle.model.proofs.Laws.Shape.{Shaped}
 
@@ -45,34 +45,34 @@ changed-most old new is = omega (arith, changes-most 0 old new, is .size)
 
 module _ (state : SlotState) (sam «com» tam : List ℕ) (done due words : ℕ) (d : words ≡ changedWords sam «com» tam) where
   -- what a commit that fits has
-  fits-parts : commitFits state sam «com» tam done due ≡ true
+  commit-parts : commitValid state sam «com» tam done due ≡ true
       → (isPrecommitted state ≡ true) × (1 ≤ words) × (due ≡ 3 * words + 2)
-  unfolding commitFits
-  fits-parts h =
+  unfolding commitValid
+  commit-parts h =
       let r = both _ _ (both _ _ h .0) in
       let q = both _ _ (r .0) in
       (q .0, rw d (leb-true 1 (changedWords sam «com» tam) (q .1)), rw d (eqb-true due (3 * changedWords sam «com» tam + 2) (r .1)))
 
-  pub commit-open : isPrecommitted state ≡ false → false ≡ commitFits state sam «com» tam done due
-  commit-open e = not-true-false _ (λ h. false≢true (sym e ∙ fits-parts h .0))
+  pub commit-open : isPrecommitted state ≡ false → false ≡ commitValid state sam «com» tam done due
+  commit-open e = not-true-false _ (λ h. false≢true (sym e ∙ commit-parts h .0))
 
-  pub commit-none : words < 1 → false ≡ commitFits state sam «com» tam done due
-  commit-none l = not-true-false _ (λ h. omega (arith, fits-parts h .1))
+  pub commit-none : words < 1 → false ≡ commitValid state sam «com» tam done due
+  commit-none l = not-true-false _ (λ h. omega (arith, commit-parts h .1))
 
-  pub commit-due : (due ≡ 3 * words + 2 → ⊥) → false ≡ commitFits state sam «com» tam done due
-  commit-due n = not-true-false _ (λ h. n (fits-parts h .2))
+  pub commit-due : (due ≡ 3 * words + 2 → ⊥) → false ≡ commitValid state sam «com» tam done due
+  commit-due n = not-true-false _ (λ h. n (commit-parts h .2))
 
   -- what is left to test
-  pub commit-rest : isPrecommitted state ≡ true → 1 ≤ words → due ≡ 3 * words + 2 → ltb done due ≡ commitFits state sam «com» tam done due
-  unfolding commitFits
+  pub commit-rest : isPrecommitted state ≡ true → 1 ≤ words → due ≡ 3 * words + 2 → ltb done due ≡ commitValid state sam «com» tam done due
+  unfolding commitValid
   commit-rest p l e =
       sym (ap (λ (t : Bool). t && ltb done due)
       (and-both _ _ (and-both _ _ p (rw d at (le-leb 1 words l))) (rw d at (eq-eqb due (3 * words + 2) e))))
 
 -- the same slot, under another name
 pub commit-slot : {slot other : Slot} (sam «com» : List ℕ) (done due : ℕ) → slot ≡ other
-    → commitFits (slot .state) sam «com» (slot .tam .words) done due ≡ commitFits (other .state) sam «com» (other .tam .words) done due
-commit-slot sam «com» done due e = ap (λ (slot : Slot). commitFits (slot .state) sam «com» (slot .tam .words) done due) e
+    → commitValid (slot .state) sam «com» (slot .tam .words) done due ≡ commitValid (other .state) sam «com» (other .tam .words) done due
+commit-slot sam «com» done due e = ap (λ (slot : Slot). commitValid (slot .state) sam «com» (slot .tam .words) done due) e
 
 -- ---- a commit in its memory
 
@@ -92,11 +92,11 @@ module _ (memory : Memory) (s : ℕ) (shape : Shaped memory) (most : memory .blo
   unfolding changedOf entriesOf changedWords
   changed-words = ap (λ (words : List ℕ). length (changes (memory .sam .words) words)) committed-words
 
-  pub commit-fits : (done due : ℕ)
-      → commitFits (slotAt memory s .state) (memory .sam .words) (memory .com .words) (slotAt memory s .tam .words) done due
+  pub commit-valid : (done due : ℕ)
+      → commitValid (slotAt memory s .state) (memory .sam .words) (memory .com .words) (slotAt memory s .tam .words) done due
       ≡ pendingValid memory (Pending.Commit s done due)
-  unfolding commitFits pendingValid
-  commit-fits done due =
+  unfolding commitValid pendingValid
+  commit-valid done due =
       ap (λ (d : ℕ). isPrecommitted (slotAt memory s .state) && leb 1 d && eqb due (3 * d + 2) && ltb done due) (sym changed-words)
 
 -- a slot number above 7 has no precommitted slot

@@ -13,7 +13,7 @@ use Rattle.model.specs.Valid.{valid}
 use Rattle.model.specs.Causes.{memoryInvalid, isNothing, nothingPending, workPending, slotOutOfRange, slotActive, slotInactive, slotPrecommitted}
 use Rattle.verdicts.specs.declared.verdict.Verdict.{Verdict}
 use Rattle.verdicts.specs.Verdicts.{verdict}
-use Rattle.verdicts.specs.Ready.{readyCauses, readyError, activeCauses, activeError, openError}
+use Rattle.verdicts.specs.Ready.{readyCauses, readyError, activeCauses, activeError, openSlotError}
 use Rattle.verdicts.proofs.Laws.Verdicts.{cause-holds, cause-passed, no-cause, none-holds, accepted-none, accepted-then}
 
 module _ (memory : Memory) (s : ℕ) where
@@ -56,11 +56,11 @@ module _ (memory : Memory) (s : ℕ) where
   -- ---- 13
 
   pub precommitted-refused : verdict (activeError memory s) ≡ Verdict.Accepted → isPrecommitted (slotAt memory s .state) ≡ true
-      → Verdict.Refused SlotPrecommitted ≡ verdict (openError memory s)
+      → Verdict.Refused SlotPrecommitted ≡ verdict (openSlotError memory s)
   unfolding slotPrecommitted
   precommitted-refused r e = ap verdict (sym (accepted-then (activeCauses memory s) _ r ∙ cause-holds (slotPrecommitted memory s) SlotPrecommitted [] e))
 
-  pub open-accepted : verdict (activeError memory s) ≡ Verdict.Accepted → isPrecommitted (slotAt memory s .state) ≡ false → Verdict.Accepted ≡ verdict (openError memory s)
+  pub open-accepted : verdict (activeError memory s) ≡ Verdict.Accepted → isPrecommitted (slotAt memory s .state) ≡ false → Verdict.Accepted ≡ verdict (openSlotError memory s)
   unfolding slotPrecommitted
   open-accepted r e = ap verdict (sym (accepted-then (activeCauses memory s) _ r ∙ cause-passed (slotPrecommitted memory s) SlotPrecommitted [] e ∙ no-cause))
 
@@ -83,5 +83,5 @@ ready-of memory s more e =
 pub active-ready : (memory : Memory) (s : ℕ) → verdict (activeError memory s) ≡ Verdict.Accepted → Ready memory s
 active-ready memory s e = ready-of memory s _ e
 
-pub open-ready : (memory : Memory) (s : ℕ) → verdict (openError memory s) ≡ Verdict.Accepted → Ready memory s
+pub open-ready : (memory : Memory) (s : ℕ) → verdict (openSlotError memory s) ≡ Verdict.Accepted → Ready memory s
 open-ready memory s e = ready-of memory s _ e

@@ -9,19 +9,19 @@ use Rattle.inspect_run.proofs.call.call.Tie as tie
 
 array-borrow-prefix-disk : tie.Need-array-borrow-prefix-disk
 array-borrow-prefix-disk c =
-    let s = c .before .before in omega (arith, shaped (s .args .lent) _ (s .good .1 .0) .disk, s .pre .disk)
+    let s = c .before .before in omega (arith, shaped (s .args .fixture) _ (s .good .1 .0) .disk, s .pre .disk)
 
 slice-aggregate-any-call : tie.Need-slice-aggregate-any-call
 slice-aggregate-any-call c =
-    let s = c .before .before .before in sym (length-take-le (s .args .lent .length) (s .args .lent .disk) (omega (arith, shaped (s .args .lent) _ (s .good .1 .0) .disk, s .pre .disk)))
+    let s = c .before .before .before in sym (length-take-le (s .args .fixture .length) (s .args .fixture .disk) (omega (arith, shaped (s .args .fixture) _ (s .good .1 .0) .disk, s .pre .disk)))
 
 array-borrow-prefix-list : tie.Need-array-borrow-prefix-list
 array-borrow-prefix-list c =
-    let s = c .before .before .before in omega (arith, shaped (s .args .lent) _ (s .good .1 .0) .list, s .pre .list)
+    let s = c .before .before .before in omega (arith, shaped (s .args .fixture) _ (s .good .1 .0) .list, s .pre .list)
 
 slice-aggregate-any-call-2 : tie.Need-slice-aggregate-any-call-2
 slice-aggregate-any-call-2 c =
-    let s = c .before .before .before .before in sym (length-take-le (s .args .lent .places) (s .args .lent .list) (omega (arith, shaped (s .args .lent) _ (s .good .1 .0) .list, s .pre .list)))
+    let s = c .before .before .before .before in sym (length-take-le (s .args .fixture .places) (s .args .fixture .list) (omega (arith, shaped (s .args .fixture) _ (s .good .1 .0) .list, s .pre .list)))
 
 any-call-requires : tie.Need-any-call-requires
 any-call-requires c κs = search needs

@@ -15,11 +15,11 @@ put-field-requires c κs = search needs
 
 array-share-prefix-disk : tie.Need-array-share-prefix-disk
 array-share-prefix-disk c =
-    let s = c .before .before .before .before .before .before .before .before in omega (arith, shaped (s .args .lent) _ (s .good .1 .1 .0) .disk, s .pre .1 .disk)
+    let s = c .before .before .before .before .before .before .before .before in omega (arith, shaped (s .args .fixture) _ (s .good .1 .1 .0) .disk, s .pre .1 .disk)
 
 slice-aggregate-put-words : tie.Need-slice-aggregate-put-words
 slice-aggregate-put-words c =
-    let s = c .before .before .before .before .before .before .before .before .before in sym (length-take-le (s .args .lent .length) (s .args .lent .disk) (omega (arith, shaped (s .args .lent) _ (s .good .1 .1 .0) .disk, s .pre .1 .disk)))
+    let s = c .before .before .before .before .before .before .before .before .before in sym (length-take-le (s .args .fixture .length) (s .args .fixture .disk) (omega (arith, shaped (s .args .fixture) _ (s .good .1 .1 .0) .disk, s .pre .1 .disk)))
 
 put-words-requires : tie.Need-put-words-requires
 put-words-requires c κs = search needs

@@ -15,11 +15,11 @@ put-field-requires c κs = search needs
 
 array-share-prefix-list : tie.Need-array-share-prefix-list
 array-share-prefix-list c =
-    let s = c .before .before .before .before .before .before .before .before in omega (arith, shaped (s .args .lent) _ (s .good .1 .1 .0) .list, s .pre .1 .list)
+    let s = c .before .before .before .before .before .before .before .before in omega (arith, shaped (s .args .fixture) _ (s .good .1 .1 .0) .list, s .pre .1 .list)
 
 slice-aggregate-put-list : tie.Need-slice-aggregate-put-list
 slice-aggregate-put-list c =
-    let s = c .before .before .before .before .before .before .before .before .before in sym (length-take-le (s .args .lent .places) (s .args .lent .list) (omega (arith, shaped (s .args .lent) _ (s .good .1 .1 .0) .list, s .pre .1 .list)))
+    let s = c .before .before .before .before .before .before .before .before .before in sym (length-take-le (s .args .fixture .places) (s .args .fixture .list) (omega (arith, shaped (s .args .fixture) _ (s .good .1 .1 .0) .list, s .pre .1 .list)))
 
 put-list-requires : tie.Need-put-list-requires
 put-list-requires c κs = search needs

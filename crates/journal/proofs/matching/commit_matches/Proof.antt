@@ -56,8 +56,8 @@ committed-sam-requires c κs =
     let start = c .before .before .before .before in
     (start .pre .1 .0, hand start .slot-below)
 
-mended-after-requires : tie.Need-mended-after-requires
-mended-after-requires c κs = few (c .before .before .before .before .before)
+checkpointed-after-requires : tie.Need-checkpointed-after-requires
+checkpointed-after-requires c κs = few (c .before .before .before .before .before)
 
 words-match-requires : tie.Need-words-match-requires
 words-match-requires c κs =
@@ -75,7 +75,7 @@ returns-2 c =
     let length-after = c .before .before .before .before .before .before .before .before .length-after in
     let head-matches = c .before .before .before .before .before .before .before .head-matches in
     let committed-sam = c .before .before .before .before .before .committed-sam in
-    let mended-after = c .before .before .before .before .mended-after in
+    let checkpointed-after = c .before .before .before .before .checkpointed-after in
     sym
     (commit-go
     (start .args .t1)
@@ -87,14 +87,14 @@ returns-2 c =
     (shape start)
     (hand start)
     (length-after .result)
-    (mended-after .result)
+    (checkpointed-after .result)
     (committed-sam .result)
     (head-matches .result)
     (c .words-match .result)
     (length-after .ensures)
     (head-matches .ensures)
     (not-false _ (c .before .before .before .before .before .before .if1 .left))
-    (mended-after .ensures)
+    (checkpointed-after .ensures)
     (committed-sam .ensures)
     (c .words-match .ensures))
 
@@ -107,6 +107,6 @@ commit-matches-spec =
     head-matches-requires
     returns
     committed-sam-requires
-    mended-after-requires
+    checkpointed-after-requires
     words-match-requires
     returns-2)

@@ -19,12 +19,12 @@ returns : tie.Need-returns
 unfolding wordMatches
 returns c = simp (eq-eqb _ _ (c .if1 .taken))
 
-mended-word-requires : tie.Need-mended-word-requires
-mended-word-requires c κs = search needs
+checkpointed-word-requires : tie.Need-checkpointed-word-requires
+checkpointed-word-requires c κs = search needs
 
 returns-2 : tie.Need-returns-2
 unfolding wordMatches
-returns-2 c = simp (ne-eqb _ _ (c .before .before .if1 .left), ne-eqb _ _ (λ e. c .if2 .taken (e ∙ sym (c .before .mended-word .ensures))))
+returns-2 c = simp (ne-eqb _ _ (c .before .before .if1 .left), ne-eqb _ _ (λ e. c .if2 .taken (e ∙ sym (c .before .checkpointed-word .ensures))))
 
 entry-written-requires : tie.Need-entry-written-requires
 entry-written-requires c κs = search needs
@@ -34,7 +34,7 @@ unfolding wordMatches
 returns-3 c =
     simp (
       ne-eqb _ _ (c .before .before .before .if1 .left),
-      eq-eqb _ _ (c .before .if2 .left ∙ c .before .before .mended-word .ensures),
+      eq-eqb _ _ (c .before .if2 .left ∙ c .before .before .checkpointed-word .ensures),
     )
     (c .entry-written .ensures)
 
@@ -46,7 +46,7 @@ word-matches-spec =
     mul-word
     shared-slice-read-word
     returns
-    mended-word-requires
+    checkpointed-word-requires
     returns-2
     entry-written-requires
     returns-3)

@@ -12,15 +12,15 @@ use Rattle.journal.proofs.written.words_match.Statement.{statement}
 use Rattle.journal.proofs.written.words_match.Tie as tie
 
 abbrev Inv-loop : tie.InvT-loop
-Inv-loop disk done mended old new i₀ k₀ i k =
+Inv-loop disk done checkpointed old new i₀ k₀ i k =
     (k ≤ bitmapWords)
     ×
     (i ≤ k)
     ×
-    (wordsMatch disk done mended 0 0 old new ≡ wordsMatch disk done mended k i (drop k old) (drop k new))
+    (wordsMatch disk done checkpointed 0 0 old new ≡ wordsMatch disk done checkpointed k i (drop k old) (drop k new))
 
 abbrev μ-loop : tie.MeasureT-loop
-μ-loop disk done mended old new i₀ k₀ i k = bitmapWords - k
+μ-loop disk done checkpointed old new i₀ k₀ i k = bitmapWords - k
 
 loop-holds : tie.Need-loop-holds Inv-loop μ-loop
 loop-holds c = (omega arith, omega arith, refl)
@@ -49,7 +49,7 @@ returns c =
     ∙ words-stop
     (now (start .args .disk))
     (start .args .done)
-    (start .args .mended)
+    (start .args .checkpointed)
     (now (start .args .old))
     (now (start .args .new))
     (start .pre .1 .0 .size)
@@ -91,7 +91,7 @@ loop-again c =
           ∙ words-go
           (now (start .args .disk))
           (start .args .done)
-          (start .args .mended)
+          (start .args .checkpointed)
           (now (start .args .old))
           (now (start .args .new))
           (start .pre .1 .0 .size)
@@ -114,7 +114,7 @@ returns-2 c =
     ∙ words-end
     (now (start .args .disk))
     (start .args .done)
-    (start .args .mended)
+    (start .args .checkpointed)
     (now (start .args .old))
     (now (start .args .new))
     (start .pre .1 .0 .size)

@@ -16,11 +16,11 @@ clear-requires : tie.Need-clear-requires
 clear-requires c κs =
     let b = c .before in block-fits (b .args .t1) (b .args .block) (b .pre .0) (b .pre .1 .1)
 
-mul-holder : tie.Need-mul-holder
-mul-holder c = search needs
+mul-own : tie.Need-mul-own
+mul-own c = search needs
 
-element-copy-out-holder : tie.Need-element-copy-out-holder
-element-copy-out-holder c = search needs
+element-copy-out-own : tie.Need-element-copy-out-own
+element-copy-out-own c = search needs
 
 clear-requires-2 : tie.Need-clear-requires-2
 clear-requires-2 c κs =
@@ -51,8 +51,8 @@ freeing-spec =
     tie.close
     (tie.spec
     clear-requires
-    mul-holder
-    element-copy-out-holder
+    mul-own
+    element-copy-out-own
     clear-requires-2
     mul-t9
     element-set-from-memory

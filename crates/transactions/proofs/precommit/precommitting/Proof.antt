@@ -9,11 +9,11 @@ use borrow.Author.Needs.{needs}
 use Rattle.transactions.proofs.precommit.precommitting.Statement.{statement}
 use Rattle.transactions.proofs.precommit.precommitting.Tie as tie
 
-mul-holder : tie.Need-mul-holder
-mul-holder c = search needs
+mul-own : tie.Need-mul-own
+mul-own c = search needs
 
-element-copy-out-holder : tie.Need-element-copy-out-holder
-element-copy-out-holder c = search needs
+element-copy-out-own : tie.Need-element-copy-out-own
+element-copy-out-own c = search needs
 
 new-requires : tie.Need-new-requires
 new-requires c κs = search needs
@@ -37,8 +37,8 @@ pub precommitting-spec : {M : Type 1} → statement M
 precommitting-spec =
     tie.close
     (tie.spec
-    mul-holder
-    element-copy-out-holder
+    mul-own
+    element-copy-out-own
     new-requires
     mul-t7
     element-set-from-memory

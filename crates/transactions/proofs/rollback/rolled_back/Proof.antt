@@ -12,11 +12,11 @@ use borrow.Author.Needs.{needs}
 use Rattle.transactions.proofs.rollback.rolled_back.Statement.{statement}
 use Rattle.transactions.proofs.rollback.rolled_back.Tie as tie
 
-mul-holder : tie.Need-mul-holder
-mul-holder c = search needs
+mul-own : tie.Need-mul-own
+mul-own c = search needs
 
-element-copy-out-holder : tie.Need-element-copy-out-holder
-element-copy-out-holder c = search needs
+element-copy-out-own : tie.Need-element-copy-out-own
+element-copy-out-own c = search needs
 
 rollback-requires : tie.Need-rollback-requires
 rollback-requires c κs =
@@ -50,8 +50,8 @@ pub rolled-back-spec : {M : Type 1} → statement M
 rolled-back-spec =
     tie.close
     (tie.spec
-    mul-holder
-    element-copy-out-holder
+    mul-own
+    element-copy-out-own
     rollback-requires
     idle-requires
     mul-t7

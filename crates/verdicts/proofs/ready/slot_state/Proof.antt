@@ -6,14 +6,14 @@ use borrow.Author.Needs.{needs}
 use Rattle.verdicts.proofs.ready.slot_state.Statement.{statement}
 use Rattle.verdicts.proofs.ready.slot_state.Tie as tie
 
-mul-holder : tie.Need-mul-holder
-mul-holder c = search needs
+mul-own : tie.Need-mul-own
+mul-own c = search needs
 
-element-copy-out-holder : tie.Need-element-copy-out-holder
-element-copy-out-holder c = search needs
+element-copy-out-own : tie.Need-element-copy-out-own
+element-copy-out-own c = search needs
 
 returns : tie.Need-returns
 returns c = let a = c .before .args in ap (λ (slot : Slot). slot .state) (slot-read (a .t1) _ (a .slot) (shaped (a .t1) _ (c .before .good .0)) (c .before .pre))
 
 pub slot-state-spec : {M : Type 1} → statement M
-slot-state-spec = tie.close (tie.spec mul-holder element-copy-out-holder returns)
+slot-state-spec = tie.close (tie.spec mul-own element-copy-out-own returns)

@@ -10,7 +10,7 @@ pub(crate) const MAX_LENGTH: usize = 400;
 pub(crate) const MAX_PLACES: usize = 64;
 
 // The memory, and the words of the disk and of the list: of these the first `length` and the first `places` are lent.
-pub(crate) struct Lent {
+pub(crate) struct Fixture {
     pub memory: Memory,
     pub disk: [u32; 400],
     pub length: usize,
@@ -20,17 +20,17 @@ pub(crate) struct Lent {
 
 // What a line leaves: what is lent from then on, and the answer and value that are printed.
 pub(crate) struct Step {
-    pub lent: Lent,
+    pub fixture: Fixture,
     pub answer: u32,
     pub value: u32,
 }
 
-impl Lent {
+impl Fixture {
     // A disk of 386 zeros, a memory of zeros, a list of 64 zeros.
-    pub(crate) fn new() -> Lent
+    pub(crate) fn new() -> Fixture
         ensures { λ r. ⌜ Sized r ⌝ }
     {
-        Lent {
+        Fixture {
             memory: Memory::zero(),
             disk: [0; 400],
             length: DISK_WORDS,
@@ -40,13 +40,13 @@ impl Lent {
     }
 
     // The same with another memory.
-    pub(crate) fn with_memory(self, memory: Memory) -> Lent
+    pub(crate) fn with_memory(self, memory: Memory) -> Fixture
         requires { ⌜ Sized self ⌝ }
         ensures { λ r. ⌜ Sized r ⌝ }
     {
         let disk = self.disk;
         let list = self.list;
-        Lent {
+        Fixture {
             memory,
             disk,
             length: self.length,
@@ -58,10 +58,10 @@ impl Lent {
     // A line that is done, with value 0.
     pub(crate) fn done(self) -> Step
         requires { ⌜ Sized self ⌝ }
-        ensures { λ r. ⌜ Sized (r .lent) ⌝ }
+        ensures { λ r. ⌜ Sized (r .fixture) ⌝ }
     {
         Step {
-            lent: self,
+            fixture: self,
             answer: 0,
             value: 0,
         }
@@ -70,10 +70,10 @@ impl Lent {
     // A line that isn't in form or in range.
     pub(crate) fn malformed(self) -> Step
         requires { ⌜ Sized self ⌝ }
-        ensures { λ r. ⌜ Sized (r .lent) ⌝ }
+        ensures { λ r. ⌜ Sized (r .fixture) ⌝ }
     {
         Step {
-            lent: self,
+            fixture: self,
             answer: Error::LineMalformed.code(),
             value: 0,
         }
