@@ -14,8 +14,7 @@ bench: program
 	@target/bin/bench < $(FILE)
 
 program:
-	@mkdir -p target
-	@rt check bench > target/bench.log 2>&1 || { tail -n 20 target/bench.log >&2; exit 1; }
+	@bench/prove bench
 
 reference:
 	@cargo build --release --quiet --offline --manifest-path reference/Cargo.toml
