@@ -1,9 +1,12 @@
 -- Laws that follow from the definitions.
 pub mod Fields
-pub mod Causes
+pub mod First
+pub mod Numbers
 pub mod Writes
+pub mod Accepted
 pub mod Entries
 pub mod DiskParts
+pub mod Closing
 pub mod Shape
 pub mod Matching
 pub mod Valid
@@ -15,6 +18,6 @@ pub mod Taking
 pub mod Committed
 pub mod Committing
 pub mod CommitLog
+pub mod Durable
 pub mod RecoveryLog
-pub mod RecoveryStep
 pub mod Opened

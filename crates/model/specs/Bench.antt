@@ -1,30 +1,18 @@
 -- The bench program: the step from a line to the next memory, disk and answer, and all of its output.
-use Prim.Native.Nat.{ℕ, zero, suc, _+_}
-use mathlib.Core.Bool.{Bool, cond}
-use mathlib.Core.Option.{Option, none, some}
+use Prim.Native.Nat.{ℕ, suc}
+use mathlib.Core.Bool.{cond}
 use mathlib.Core.List.{List, [], _∷_, _++_}
 use lib.ListN.{length, take, replicate}
 use lib.Dec.{eqb}
 use Rattle.bitmap.specs.Sizes.{maxCount}
 use Rattle.model.specs.Types.{Memory, LineMalformed}
 use Rattle.model.specs.declared.line.Op.{Op}
-use Rattle.model.specs.declared.line.Line.{Line}
 use Rattle.model.specs.declared.line.Parsed.{Parsed}
 use Rattle.model.specs.Sizes.{diskWords}
-use Rattle.model.specs.Errors.{code, unlessRefused}
+use Rattle.model.specs.Errors.{code}
 use Rattle.model.specs.Memory.{zeroMemory}
-use Rattle.model.specs.Answers.{doneNumber, grantNumber, grantValue, storesNumber, storesValue, statusNumber, statusValue}
 use Rattle.model.specs.Line.{newline, parseLine, answerLine}
-use Rattle.model.specs.Calls.Format.{formatAnswer, formatDisk}
-use Rattle.model.specs.Calls.Opening.{openError, openAnswer, opened}
-use Rattle.model.specs.Calls.Start.{startAnswer, startMemory}
-use Rattle.model.specs.Calls.Allocate.{allocateAnswer, allocateMemory}
-use Rattle.model.specs.Calls.Deallocate.{deallocateAnswer, deallocateMemory}
-use Rattle.model.specs.Calls.Precommit.{precommitAnswer, precommitMemory}
-use Rattle.model.specs.Calls.Committing.{commitAnswer, commitMemory}
-use Rattle.model.specs.Calls.Rollback.{rollbackAnswer, rollbackMemory}
-use Rattle.model.specs.Calls.Storing.{storeAnswer, storeMemory, storeDisk}
-use Rattle.model.specs.Calls.Status.{statusAnswer}
+use Rattle.model.specs.Outcome.{Outcome, outcome, formatOutcome, openCall, startCall, allocateCall, deallocateCall, precommitCall, commitCall, rollbackCall, storeCall, statusCall, crashCall}
 
 -- "It reads up to 60,000 lines"
 abbrev pub maxLines : ℕ
@@ -48,31 +36,27 @@ benchOf memory disk answer value = record { memory = memory; disk = disk; answer
 abbrev pub benchStart : Bench
 benchStart = benchOf zeroMemory (replicate diskWords 0) 0 0
 
--- one call. "A cut puts the zero memory back; a refused open keeps the old one, and so does any format."
+-- what is kept and printed of a call
+abbrev pub printed : Outcome → Bench
+printed after = benchOf (after .memory) (after .disk) (after .number) (after .value)
+
+-- "a refused open keeps the old one"
+abbrev pub keepingOld : Memory → Outcome → Bench
+keepingOld memory after = benchOf (cond (eqb (after .number) 0) (after .memory) memory) (after .disk) (after .number) (after .value)
+
+-- the call of a line, n being the count or the block
 unfoldable pub benchCall : Op → ℕ → ℕ → Memory → List ℕ → Bench
-benchCall Op.Format s n memory disk = benchOf memory (formatDisk disk n) (doneNumber (formatAnswer disk n)) 0
-benchCall Op.Open s n memory disk =
-    benchOf (unlessRefused (openError disk) (opened disk) memory) disk (storesNumber (openAnswer disk)) (storesValue (openAnswer disk))
-benchCall Op.Start s n memory disk = benchOf (startMemory memory s) disk (doneNumber (startAnswer memory s)) 0
-benchCall Op.Allocate s n memory disk =
-    benchOf
-    (allocateMemory memory s n benchList)
-    disk
-    (grantNumber (allocateAnswer memory s n benchList))
-    (grantValue (allocateAnswer memory s n benchList))
-benchCall Op.Deallocate s n memory disk = benchOf (deallocateMemory memory s n) disk (doneNumber (deallocateAnswer memory s n)) 0
-benchCall Op.Precommit s n memory disk = benchOf (precommitMemory memory s) disk (doneNumber (precommitAnswer memory s)) 0
-benchCall Op.Commit s n memory disk =
-    benchOf (commitMemory memory s) disk (storesNumber (commitAnswer memory s)) (storesValue (commitAnswer memory s))
-benchCall Op.Rollback s n memory disk = benchOf (rollbackMemory memory s) disk (doneNumber (rollbackAnswer memory s)) 0
-benchCall Op.Store s n memory disk =
-    benchOf
-    (storeMemory memory disk)
-    (storeDisk memory disk)
-    (storesNumber (storeAnswer memory disk))
-    (storesValue (storeAnswer memory disk))
-benchCall Op.Status s n memory disk = benchOf memory disk (statusNumber (statusAnswer memory)) (statusValue (statusAnswer memory))
-benchCall Op.Crash s n memory disk = benchOf zeroMemory disk 0 0
+benchCall Op.Format s n memory disk = printed (formatOutcome n memory disk)
+benchCall Op.Open s n memory disk = keepingOld memory (outcome openCall memory disk)
+benchCall Op.Start s n memory disk = printed (outcome (startCall s) memory disk)
+benchCall Op.Allocate s n memory disk = printed (outcome (allocateCall s n benchList) memory disk)
+benchCall Op.Deallocate s n memory disk = printed (outcome (deallocateCall s n) memory disk)
+benchCall Op.Precommit s n memory disk = printed (outcome (precommitCall s) memory disk)
+benchCall Op.Commit s n memory disk = printed (outcome (commitCall s) memory disk)
+benchCall Op.Rollback s n memory disk = printed (outcome (rollbackCall s) memory disk)
+benchCall Op.Store s n memory disk = printed (outcome storeCall memory disk)
+benchCall Op.Status s n memory disk = printed (outcome statusCall memory disk)
+benchCall Op.Crash s n memory disk = printed (outcome crashCall memory disk)
 
 -- a line not in form gets 21, and alters nothing
 unfoldable pub benchStep : Parsed → Bench → Bench

@@ -1,12 +1,12 @@
 -- The disk (document 01: the medium): its layout, its log, replay, and what a memory and its stores done leave of it.
 use Prim.Native.Nat.{ℕ, zero, suc, _+_, _-_, _*_, _^_}
-use mathlib.Core.Bool.{Bool, true, false, _&&_}
+use mathlib.Core.Bool.{Bool, true, _&&_}
 use mathlib.Core.List.{List, [], _∷_, _++_}
 use lib.ListN.{getD, take, drop}
 use lib.Dec.{leb, ltb, eqb}
 use Rattle.bitmap.specs.Sizes.{bitmapWords, wordsFor}
 use Rattle.bitmap.specs.Bits.{noBitsFrom}
-use Rattle.model.specs.Types.{Bitmap, Pending, Nothing, Commit, Recovery, Memory}
+use Rattle.model.specs.Types.{Pending, Nothing, Commit, Recovery, Memory}
 use Rattle.model.specs.Sizes.{blocksAt, lengthAt, bitmapAt, logAt}
 use Rattle.model.specs.Stores.{Store, writes, after, commitStores, checkpointStores, _≔_}
 use Rattle.model.specs.Commit.{entriesOf}
@@ -16,17 +16,21 @@ use Rattle.model.specs.Valid.{sameWords}
 abbrev pub diskBlocks : List ℕ → ℕ
 diskBlocks disk = getD disk blocksAt 0
 
--- word 1, the log length p
+-- the log length that word 1 tells
+abbrev pub lengthIn : ℕ → ℕ
+lengthIn word = word
+
+-- the log length p of a disk
 abbrev pub logLength : List ℕ → ℕ
-logLength disk = getD disk lengthAt 0
+logLength disk = lengthIn (getD disk lengthAt 0)
 
 -- words 2 to 129
 abbrev pub diskBitmap : List ℕ → List ℕ
 diskBitmap disk = take bitmapWords (drop bitmapAt disk)
 
--- a disk's words from its four parts
+-- a disk's words from its four parts: word 0, word 1, words 2 to 129, and the log with all that follows
 abbrev pub diskOf : ℕ → ℕ → List ℕ → List ℕ → List ℕ
-diskOf blocks length words log = blocks ∷ length ∷ (words ++ log)
+diskOf blocks word words log = blocks ∷ word ∷ (words ++ log)
 
 -- the first n entries of a log
 unfoldable pub entriesIn : ℕ → List ℕ → List Store

@@ -6,11 +6,12 @@ pub mod Answers
 pub mod Memory
 pub mod Stores
 pub mod Commit
+pub mod Pending
 pub mod Valid
 pub mod Disk
 pub mod Causes
 pub mod Calls
-pub mod Ledger
-pub mod World
+pub mod Completion
+pub mod Outcome
 pub mod Line
 pub mod Bench

@@ -1,13 +1,12 @@
 -- The bench program's line, byte by byte, and its answer line. Document 01: "lines of at most 64 bytes (byte 10 not
 -- counted), `op=.. seat=.. n=..`, numbers of 1 to 5 digits, one space between fields."
 use Prim.Native.Nat.{ℕ, zero, suc, _+_, _-_, _*_, _/_, _%_}
-use mathlib.Core.Bool.{Bool, true, false, not, cond, _&&_}
+use mathlib.Core.Bool.{Bool, cond, _&&_}
 use mathlib.Core.Option.{Option, none, some}
 use mathlib.Core.List.{List, [], _∷_, _++_}
 use lib.ListN.{length}
 use lib.Dec.{leb, ltb, eqb}
 use Rattle.model.specs.declared.line.Op.{Op}
-use Rattle.model.specs.declared.line.Line.{Line}
 use Rattle.model.specs.declared.line.Parsed.{Parsed}
 
 -- the most bytes of a line

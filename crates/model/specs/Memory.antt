@@ -1,7 +1,7 @@
--- The memory: how it is made and changed, and its bits. A whole memory is written here and nowhere else.
+-- The memory: how it is made and changed, and its bits. A whole memory and a whole slot are written here and nowhere else.
 use Prim.Native.Nat.{ℕ}
-use mathlib.Core.Bool.{Bool, true, false, not, xor}
-use mathlib.Core.List.{List, [], _∷_, map}
+use mathlib.Core.Bool.{Bool, true, false, xor}
+use mathlib.Core.List.{List}
 use lib.ListN.{getD, set, replicate}
 use Rattle.bitmap.specs.Sizes.{bitmapWords, slotCount, wordsFor}
 use Rattle.bitmap.specs.Bits.{bit, bitmapOf}
@@ -16,6 +16,12 @@ emptyBitmap = bitmap (replicate bitmapWords 0)
 
 abbrev pub slotOf : SlotState → Bitmap → Slot
 slotOf state tam = record { state = state; tam = tam }
+
+abbrev pub withState : Slot → SlotState → Slot
+withState slot state = slotOf state (slot .tam)
+
+abbrev pub withTam : Slot → Bitmap → Slot
+withTam slot tam = slotOf (slot .state) tam
 
 -- "An idle seat's map (TAM) is empty."
 abbrev pub idleSlot : Slot

@@ -20,3 +20,11 @@ bitmapAt = 2
 -- where the log starts
 abbrev pub logAt : ℕ
 logAt = 130
+
+-- the log's words: an entry of two for each bitmap word
+abbrev pub logWords : ℕ
+logWords = 256
+
+-- where the log ends
+abbrev pub logEnd : ℕ
+logEnd = 386

@@ -1,6 +1,6 @@
 -- Stores: one word of the disk each. Document 01: "A store writes one word. It lands whole and in turn."
-use Prim.Native.Nat.{ℕ, zero, suc, _+_}
-use mathlib.Core.Bool.{Bool, cond}
+use Prim.Native.Nat.{ℕ, suc, _+_}
+use mathlib.Core.Bool.{cond}
 use mathlib.Core.List.{List, [], _∷_, _++_, map}
 use lib.ListN.{length, set, take}
 use lib.Dec.{eqb}
@@ -43,10 +43,26 @@ logStores at (entry ∷ entries) = at ≔ entry .place ∷ (at + 1) ≔ entry .v
 abbrev pub onDisk : Store → Store
 onDisk entry = (bitmapAt + entry .place) ≔ entry .value
 
--- "the d map words, rising; word 1 becomes 0": the end of a commit, and all of a recovery, in log order
-unfoldable pub checkpointStores : List Store → List Store
-checkpointStores entries = map onDisk entries ++ (lengthAt ≔ 0 ∷ [])
+-- a checkpoint: the logged words go to the bitmap, in log order, and then the closing stores are made
+unfoldable pub checkpointWith : List Store → List Store → List Store
+checkpointWith closing entries = map onDisk entries ++ closing
 
--- all stores of a commit: the log, the commit point (document 01: the mark), the bitmap words, word 1 to 0
+-- a journal: the log, the commit point (document 01: the mark), which makes word 1 this, and the checkpoint
+unfoldable pub journalWith : ℕ → List Store → List Store → List Store
+journalWith point closing entries = logStores logAt entries ++ (lengthAt ≔ point ∷ checkpointWith closing entries)
+
+-- "the mark, word 1 becomes d"
+abbrev pub commitPoint : List Store → ℕ
+commitPoint entries = length entries
+
+-- "word 1 becomes 0"
+abbrev pub closingStores : List Store
+closingStores = lengthAt ≔ 0 ∷ []
+
+-- the end of a commit, and all of a recovery
+unfoldable pub checkpointStores : List Store → List Store
+checkpointStores entries = checkpointWith closingStores entries
+
+-- all stores of a commit
 unfoldable pub commitStores : List Store → List Store
-commitStores entries = logStores logAt entries ++ (lengthAt ≔ length entries ∷ checkpointStores entries)
+commitStores entries = journalWith (commitPoint entries) closingStores entries

@@ -1,15 +1,14 @@
 -- Valid memory (document 01: fit), every clause of it.
-use Prim.Native.Nat.{ℕ, zero, suc, _+_, _*_}
+use Prim.Native.Nat.{ℕ, _+_}
 use mathlib.Core.Bool.{Bool, true, false, not, cond, xor, _&&_}
 use mathlib.Core.List.{List, [], _∷_}
-use lib.ListN.{length}
 use lib.Dec.{leb, ltb, eqb}
 use Rattle.bitmap.specs.Sizes.{maxBlocks}
 use Rattle.bitmap.specs.Bits.{noBitsFrom}
 use Rattle.bitmap.specs.Blocks.{allBelow}
-use Rattle.model.specs.Types.{Idle, Open, Precommitted, Slot, Pending, Nothing, Commit, Recovery, Memory}
+use Rattle.model.specs.Types.{Slot, Pending, Nothing, Commit, Recovery, Memory}
 use Rattle.model.specs.Memory.{slotAt, isActive, isPrecommitted, samBit, comBit, touched, emptyBitmap, volumeWords}
-use Rattle.model.specs.Commit.{changedOf}
+use Rattle.model.specs.Commit.{changedOf, commitDue}
 
 -- "m is in range"
 unfoldable pub blocksInRange : ℕ → Bool
@@ -53,7 +52,7 @@ pendingValid memory Nothing = true
 pendingValid memory (Commit s done due) =
     isPrecommitted (slotAt memory s .state)
     && leb 1 (changedOf memory s)
-    && eqb due (3 * changedOf memory s + 2)
+    && eqb due (commitDue memory s)
     && ltb done due
 pendingValid memory (Recovery done due) = isQuiet memory && leb 2 due && leb due (volumeWords memory + 1) && ltb done due
 

@@ -1,5 +1,6 @@
 -- A commit that is crashed after any number of its stores: before the commit point the disk stands for the old bitmap, and
--- from it on for the new one.
+-- from it on for the new one. So for every journal whose commit point tells the log's length and whose closing stores leave
+-- bitmap and log alone; a commit's is one.
 use Prim.Native.Nat.{ℕ, suc, _+_, _-_, _*_, _≤_, _<_}
 use mathlib.Core.Path.{_≡_, refl, sym, ap, _∙_}
 use mathlib.Core.Bool.{true}
@@ -7,27 +8,28 @@ use mathlib.Core.Option.{none}
 use mathlib.Core.List.{List, _∷_, _++_, map}
 use native.Mathlib.Omega.{arith}
 use native.Mathlib.Decide.{decLe}
-use lib.ListN.{length, set, take, drop}
+use lib.ListN.{length, set, take, drop, length-map}
 use lib.Seq.{take-append-le, take-append-add, take-all}
-use Rattle.bitmap.specs.Sizes.{wordsFor}
+use Rattle.bitmap.specs.Sizes.{maxBlocks, bitmapWords, wordsFor}
 use Rattle.bitmap.specs.Bits.{noBitsFrom}
-use Rattle.model.specs.Sizes.{lengthAt, logAt}
-use Rattle.model.specs.Stores.{Store, _≔_, writes, after, changes, logStores, onDisk, checkpointStores, commitStores}
-use Rattle.model.specs.Disk.{diskBlocks, logLength, diskBitmap, diskOf, entriesIn, logEntries, entriesValid, durable}
+use Rattle.model.specs.Sizes.{lengthAt, logAt, logWords}
+use Rattle.model.specs.Stores.{Store, _≔_, writes, after, changes, logStores, onDisk, checkpointWith, journalWith, commitPoint, closingStores, commitStores}
+use Rattle.model.specs.Disk.{lengthIn, diskOf, entriesIn, entriesValid, durable}
 use Rattle.model.specs.Calls.Opening.{openError}
 use Rattle.model.proofs.Laws.Writes.{writes-append, length-writes, writes-take-again, writes-twice}
-use Rattle.model.proofs.Laws.Entries.{Places, places-take, changes-places, changes-length, length-logStores, length-commitStores, take-checkpointStores, writes-log, writes-log-all, entries-logged, writes-noBits, writes-take-noBits}
-use Rattle.model.proofs.Laws.DiskParts.{diskOf-bitmap, diskOf-log, diskOf-entries, diskOf-durable, diskOf-length, diskOf-opens, writes-onDisk, writes-checkpoint}
+use Rattle.model.proofs.Laws.Entries.{Places, places-take, changes-places, changes-length, length-logStores, take-checkpoint, writes-log, writes-log-all, entries-logged, writes-noBits, writes-take-noBits}
+use Rattle.model.proofs.Laws.DiskParts.{diskOf-log, diskOf-durable, diskOf-opens, writes-onDisk}
+use Rattle.model.proofs.Laws.Closing.{Closing, closing-take, Closed, closed, closed-durable, closed-opens}
 
 -- what a commit starts from: the old bitmap, the log words, and the entries that it writes
 pub record CommitFrom (sam log : List ℕ) (es : List Store) : Type 0 where
-  pub sam-length : length sam ≡ 128
-  pub log-length : length log ≡ 256
-  pub places : Places 128 es
-  pub few : length es ≤ 128
+  pub sam-length : length sam ≡ bitmapWords
+  pub log-length : length log ≡ logWords
+  pub places : Places bitmapWords es
+  pub few : length es ≤ bitmapWords
 
 -- the changed words of a bitmap
-pub changes-from : (sam new log : List ℕ) → length sam ≡ 128 → length log ≡ 256 → CommitFrom sam log (changes sam new)
+pub changes-from : (sam new log : List ℕ) → length sam ≡ bitmapWords → length log ≡ logWords → CommitFrom sam log (changes sam new)
 changes-from sam new log s l =
     record {
       sam-length = s;
@@ -36,163 +38,160 @@ changes-from sam new log s l =
       few = omega (arith, changes-length sam new);
     }
 
--- the disk after k stores of the commit
-abbrev pub commitDisk : ℕ → List ℕ → List ℕ → List Store → ℕ → List ℕ
-commitDisk blocks sam log es k = after k (commitStores es) (diskOf blocks 0 sam log)
+-- the disk after k stores of the journal
+abbrev pub journalDisk : ℕ → ℕ → List ℕ → List ℕ → List Store → List Store → ℕ → List ℕ
+journalDisk blocks point sam log closing es k = after k (journalWith point closing es) (diskOf blocks 0 sam log)
 
 -- the log words when the log is written
 abbrev pub logged : List ℕ → List Store → List ℕ
 logged log es = writes (logStores 0 es) log
 
-module _ (blocks : ℕ) (sam log : List ℕ) (es : List Store) (from : CommitFrom sam log es) where
+module _ (blocks point : ℕ) (sam log : List ℕ) (closing es : List Store) (from : CommitFrom sam log es) where
   front : length (blocks ∷ 0 ∷ sam) ≡ logAt
   front = omega (arith, from .sam-length)
 
   -- the disk by its parts, before the commit point
-  pub commit-before : (k : ℕ) → k ≤ 2 * length es → commitDisk blocks sam log es k ≡ diskOf blocks 0 sam (writes (take k (logStores 0 es)) log)
-  unfolding commitStores
-  commit-before k h =
+  pub journal-before : (k : ℕ) → k ≤ 2 * length es → journalDisk blocks point sam log closing es k ≡ diskOf blocks 0 sam (writes (take k (logStores 0 es)) log)
+  unfolding journalWith
+  journal-before k h =
       ap
       (λ (s : List Store). writes s (diskOf blocks 0 sam log))
-      (take-append-le k (logStores logAt es) (lengthAt ≔ length es ∷ checkpointStores es) (omega (arith, length-logStores logAt es)))
+      (take-append-le k (logStores logAt es) (lengthAt ≔ point ∷ checkpointWith closing es) (omega (arith, length-logStores logAt es)))
       ∙ writes-log (blocks ∷ 0 ∷ sam) logAt k es log front
 
   -- the log and the commit point
-  commit-point : (s : List Store) → writes (logStores logAt es ++ (lengthAt ≔ length es ∷ s)) (diskOf blocks 0 sam log) ≡ writes s (diskOf blocks (length es) sam (logged log es))
+  at-point : (s : List Store) → writes (logStores logAt es ++ (lengthAt ≔ point ∷ s)) (diskOf blocks 0 sam log) ≡ writes s (diskOf blocks point sam (logged log es))
   unfolding writes
-  commit-point s =
-      writes-append (logStores logAt es) (lengthAt ≔ length es ∷ s) (diskOf blocks 0 sam log)
-      ∙ ap (λ (w : List ℕ). writes s (set w lengthAt (length es))) (writes-log-all (blocks ∷ 0 ∷ sam) logAt es log front)
+  at-point s =
+      writes-append (logStores logAt es) (lengthAt ≔ point ∷ s) (diskOf blocks 0 sam log)
+      ∙ ap (λ (w : List ℕ). writes s (set w lengthAt point)) (writes-log-all (blocks ∷ 0 ∷ sam) logAt es log front)
 
-  -- j stores after the commit point
-  commit-later : (j : ℕ) → j ≤ length es → commitDisk blocks sam log es (length (logStores logAt es) + suc j) ≡ diskOf blocks (length es) (writes (take j es) sam) (logged log es)
-  unfolding commitStores
-  commit-later j h =
-      ap
-      (λ (s : List Store). writes s (diskOf blocks 0 sam log))
-      (take-append-add (logStores logAt es) (lengthAt ≔ length es ∷ checkpointStores es) (suc j)
-      ∙ ap (λ (s : List Store). logStores logAt es ++ (lengthAt ≔ length es ∷ s)) (take-checkpointStores j es h))
-      ∙ commit-point (map onDisk (take j es))
-      ∙ writes-onDisk blocks (length es) sam (logged log es) (take j es) (from .sam-length) (places-take 128 j es (from .places))
+  -- n stores after the commit point
+  past-point : (n : ℕ) → journalDisk blocks point sam log closing es (length (logStores logAt es) + suc n) ≡ writes (take n (checkpointWith closing es)) (diskOf blocks point sam (logged log es))
+  unfolding journalWith
+  past-point n =
+      ap (λ (s : List Store). writes s (diskOf blocks 0 sam log)) (take-append-add (logStores logAt es) (lengthAt ≔ point ∷ checkpointWith closing es) (suc n))
+      ∙ at-point (take n (checkpointWith closing es))
 
   -- the disk by its parts, from the commit point on
-  pub commit-after : (k : ℕ) → 2 * length es < k → k < 3 * length es + 2 → commitDisk blocks sam log es k ≡ diskOf blocks (length es) (writes (take (k - (2 * length es + 1)) es) sam) (logged log es)
-  commit-after k h g =
-      let e : k ≡ length (logStores logAt es) + suc (k - (2 * length es + 1)) = omega (arith, length-logStores logAt es) in
-      ap (commitDisk blocks sam log es) e ∙ commit-later (k - (2 * length es + 1)) (omega arith)
+  pub journal-after : (k : ℕ) → 2 * length es < k → k ≤ 3 * length es + 1
+      → journalDisk blocks point sam log closing es k ≡ diskOf blocks point (writes (take (k - (2 * length es + 1)) es) sam) (logged log es)
+  journal-after k h g =
+      let n : ℕ = k - (2 * length es + 1) in
+      let e : k ≡ length (logStores logAt es) + suc n = omega (arith, length-logStores logAt es) in
+      ap (journalDisk blocks point sam log closing es) e
+      ∙ past-point n
+      ∙ ap (λ (s : List Store). writes s (diskOf blocks point sam (logged log es))) (take-checkpoint closing n es (omega arith))
+      ∙ writes-onDisk blocks point sam (logged log es) (from .sam-length) (take n es) (places-take bitmapWords n es (from .places))
 
-  -- the disk by its parts, at the end
-  pub commit-end : (k : ℕ) → 3 * length es + 2 ≤ k → commitDisk blocks sam log es k ≡ diskOf blocks 0 (writes es sam) (logged log es)
-  unfolding commitStores
-  commit-end k h =
-      ap (λ (s : List Store). writes s (diskOf blocks 0 sam log)) (take-all k (commitStores es) (omega (arith, length-commitStores es)))
-      ∙ commit-point (checkpointStores es)
-      ∙ writes-checkpoint blocks (length es) sam (logged log es) es (from .sam-length) (from .places)
+  -- the disk by its parts, while it is closed
+  pub journal-closing : (k : ℕ) → 3 * length es + 1 ≤ k
+      → journalDisk blocks point sam log closing es k ≡ writes (take (k - (3 * length es + 1)) closing) (diskOf blocks point (writes es sam) (logged log es))
+  unfolding checkpointWith
+  journal-closing k h =
+      let n : ℕ = k - (3 * length es + 1) in
+      let e : k ≡ length (logStores logAt es) + suc (length (map onDisk es) + n) = omega (arith, length-logStores logAt es, length-map es onDisk) in
+      ap (journalDisk blocks point sam log closing es) e
+      ∙ past-point (length (map onDisk es) + n)
+      ∙ ap (λ (s : List Store). writes s (diskOf blocks point sam (logged log es))) (take-append-add (map onDisk es) closing n)
+      ∙ writes-append (map onDisk es) (take n closing) (diskOf blocks point sam (logged log es))
+      ∙ ap (writes (take n closing)) (writes-onDisk blocks point sam (logged log es) (from .sam-length) es (from .places))
 
-  -- every k is before the commit point, from it on, or at the end
-  by-phase : (P : List ℕ → Type 0) (k : ℕ)
-      → ((w : List ℕ) → length w ≡ 256 → P (diskOf blocks 0 sam w))
-      → ((j : ℕ) → P (diskOf blocks (length es) (writes (take j es) sam) (logged log es)))
-      → P (diskOf blocks 0 (writes es sam) (logged log es))
-      → P (commitDisk blocks sam log es k)
-  by-phase P k before later done = go (decLe k (2 * length es)) (decLe (3 * length es + 2) k)
-    where
-      go : Dec (k ≤ 2 * length es) → Dec (3 * length es + 2 ≤ k) → P (commitDisk blocks sam log es k)
-      go (yes h) d = rw (commit-before k h) (before (writes (take k (logStores 0 es)) log) (length-writes (take k (logStores 0 es)) log ∙ from .log-length))
-      go (no h) (yes g) = rw (commit-end k g) done
-      go (no h) (no g) = rw (commit-after k (omega arith) (omega arith)) (later (k - (2 * length es + 1)))
+  -- ---- what it stands for
 
-  pub commit-length : (k : ℕ) → length (commitDisk blocks sam log es k) ≡ 386
-  commit-length k =
-      length-writes (take k (commitStores es)) (diskOf blocks 0 sam log)
-      ∙ diskOf-length blocks 0 sam log (from .sam-length) (from .log-length)
-
-  pub commit-blocks : (k : ℕ) → diskBlocks (commitDisk blocks sam log es k) ≡ blocks
-  commit-blocks k = by-phase (λ (disk : List ℕ). diskBlocks disk ≡ blocks) k (λ w l. refl) (λ j. refl) refl
-
-  -- before the commit point
-
-  pub logLength-before : (k : ℕ) → k ≤ 2 * length es → logLength (commitDisk blocks sam log es k) ≡ 0
-  logLength-before k h = ap (λ (disk : List ℕ). logLength disk) (commit-before k h)
-
-  pub bitmap-before : (k : ℕ) → k ≤ 2 * length es → diskBitmap (commitDisk blocks sam log es k) ≡ sam
-  bitmap-before k h =
-      ap (λ (disk : List ℕ). diskBitmap disk) (commit-before k h)
-      ∙ diskOf-bitmap blocks 0 sam (writes (take k (logStores 0 es)) log) (from .sam-length)
-
-  pub durable-before : (k : ℕ) → k ≤ 2 * length es → durable (commitDisk blocks sam log es k) ≡ sam
+  pub durable-before : (k : ℕ) → k ≤ 2 * length es → durable (journalDisk blocks point sam log closing es k) ≡ sam
   unfolding entriesIn writes
   durable-before k h =
-      ap durable (commit-before k h) ∙ diskOf-durable blocks 0 sam (writes (take k (logStores 0 es)) log) (from .sam-length)
+      ap durable (journal-before k h) ∙ diskOf-durable blocks 0 sam (writes (take k (logStores 0 es)) log) (from .sam-length)
 
-  -- from the commit point on
-
-  written-length : (s : List Store) → length (writes s sam) ≡ 128
+  written-length : (s : List Store) → length (writes s sam) ≡ bitmapWords
   written-length s = length-writes s sam ∙ from .sam-length
 
-  logged-entries : entriesIn (length es) (logged log es) ≡ es
-  logged-entries = entries-logged es log (omega (arith, from .log-length, from .few))
+  logged-length : length (logged log es) ≡ logWords
+  logged-length = length-writes (logStores 0 es) log ∙ from .log-length
 
-  pub logLength-after : (k : ℕ) → 2 * length es < k → k < 3 * length es + 2 → logLength (commitDisk blocks sam log es k) ≡ length es
-  logLength-after k h g = ap (λ (disk : List ℕ). logLength disk) (commit-after k h g)
+  module _ (tells : lengthIn point ≡ length es) (c : Closing closing) where
+    logged-entries : entriesIn (lengthIn point) (logged log es) ≡ es
+    logged-entries = ap (λ (n : ℕ). entriesIn n (logged log es)) tells ∙ entries-logged es log (omega (arith, from .log-length, from .few))
 
-  pub entries-after : (k : ℕ) → 2 * length es < k → k < 3 * length es + 2 → logEntries (commitDisk blocks sam log es k) ≡ es
-  entries-after k h g =
-      let some : List Store = take (k - (2 * length es + 1)) es in
-      ap logEntries (commit-after k h g) ∙ diskOf-entries blocks (length es) (writes some sam) (logged log es) (written-length some) ∙ logged-entries
+    -- the closing stores done so far
+    closed-by : (k : ℕ) → 3 * length es + 1 ≤ k → Closed blocks point (writes es sam) (logged log es) (journalDisk blocks point sam log closing es k)
+    closed-by k h =
+        rw (journal-closing k h)
+        (closed blocks (writes es sam) (written-length es) point (logged log es) (take (k - (3 * length es + 1)) closing) (closing-take (k - (3 * length es + 1)) closing c))
 
-  pub bitmap-after : (k : ℕ) → 2 * length es < k → k < 3 * length es + 2 → diskBitmap (commitDisk blocks sam log es k) ≡ writes (take (k - (2 * length es + 1)) es) sam
-  bitmap-after k h g =
-      let some : List Store = take (k - (2 * length es + 1)) es in
-      ap (λ (disk : List ℕ). diskBitmap disk) (commit-after k h g) ∙ diskOf-bitmap blocks (length es) (writes some sam) (logged log es) (written-length some)
+    fits-log : 2 * lengthIn point ≤ logWords
+    fits-log = omega (arith, tells, from .few)
 
-  pub durable-after : (k : ℕ) → 2 * length es < k → k < 3 * length es + 2 → durable (commitDisk blocks sam log es k) ≡ writes es sam
-  durable-after k h g =
-      let some : List Store = take (k - (2 * length es + 1)) es in
-      ap durable (commit-after k h g)
-      ∙ diskOf-durable blocks (length es) (writes some sam) (logged log es) (written-length some)
-      ∙ ap (λ (s : List Store). writes s (writes some sam)) logged-entries
-      ∙ writes-take-again (k - (2 * length es + 1)) es sam
+    pub durable-after : (k : ℕ) → 2 * length es < k → durable (journalDisk blocks point sam log closing es k) ≡ writes es sam
+    durable-after k h = go (decLe (3 * length es + 1) k)
+      where
+        go : Dec (3 * length es + 1 ≤ k) → durable (journalDisk blocks point sam log closing es k) ≡ writes es sam
+        go (yes g) =
+            closed-durable blocks (writes es sam) (written-length es) point (logged log es) fits-log (journalDisk blocks point sam log closing es k) (closed-by k g)
+            (ap (λ (s : List Store). writes s (writes es sam)) logged-entries ∙ writes-twice es sam)
+        go (no n) =
+            let some : List Store = take (k - (2 * length es + 1)) es in
+            ap durable (journal-after k h (omega arith))
+            ∙ diskOf-durable blocks point (writes some sam) (logged log es) (written-length some)
+            ∙ ap (λ (s : List Store). writes s (writes some sam)) logged-entries
+            ∙ writes-take-again (k - (2 * length es + 1)) es sam
 
-  -- at the end
+    -- ---- wherever it is crashed, the disk opens
 
-  pub logLength-end : (k : ℕ) → 3 * length es + 2 ≤ k → logLength (commitDisk blocks sam log es k) ≡ 0
-  logLength-end k h = ap (λ (disk : List ℕ). logLength disk) (commit-end k h)
+    pub journal-opens : (k : ℕ)
+        → 1 ≤ blocks
+        → blocks ≤ maxBlocks
+        → noBitsFrom blocks sam ≡ true
+        → entriesValid blocks 0 es ≡ true
+        → length es ≤ wordsFor blocks
+        → openError (journalDisk blocks point sam log closing es k) ≡ none
+    unfolding entriesIn entriesValid
+    journal-opens k some-blocks few-blocks noBits valid few = go (decLe k (2 * length es)) (decLe (3 * length es + 1) k)
+      where
+        still-valid : entriesValid blocks 0 (entriesIn (lengthIn point) (logged log es)) ≡ true
+        still-valid = ap (entriesValid blocks 0) logged-entries ∙ valid
 
-  pub bitmap-end : (k : ℕ) → 3 * length es + 2 ≤ k → diskBitmap (commitDisk blocks sam log es k) ≡ writes es sam
-  bitmap-end k h =
-      ap (λ (disk : List ℕ). diskBitmap disk) (commit-end k h) ∙ diskOf-bitmap blocks 0 (writes es sam) (logged log es) (written-length es)
+        go : Dec (k ≤ 2 * length es) → Dec (3 * length es + 1 ≤ k) → openError (journalDisk blocks point sam log closing es k) ≡ none
+        go (yes h) d =
+            ap openError (journal-before k h)
+            ∙ diskOf-opens blocks 0 sam (writes (take k (logStores 0 es)) log) (from .sam-length)
+            (length-writes (take k (logStores 0 es)) log ∙ from .log-length) some-blocks few-blocks noBits (omega arith) refl
+        go (no h) (yes g) =
+            closed-opens blocks (writes es sam) (written-length es) point (logged log es) fits-log (journalDisk blocks point sam log closing es k) (closed-by k g)
+            logged-length some-blocks few-blocks (writes-noBits blocks es sam noBits valid) (omega (arith, tells)) still-valid
+        go (no h) (no g) =
+            let some : List Store = take (k - (2 * length es + 1)) es in
+            ap openError (journal-after k (omega arith) (omega arith))
+            ∙ diskOf-opens blocks point (writes some sam) (logged log es) (written-length some) logged-length some-blocks few-blocks
+            (writes-take-noBits blocks (k - (2 * length es + 1)) es sam noBits valid) (omega (arith, tells)) still-valid
 
-  pub durable-end : (k : ℕ) → 3 * length es + 2 ≤ k → durable (commitDisk blocks sam log es k) ≡ writes es sam
-  unfolding entriesIn writes
-  durable-end k h =
-      ap durable (commit-end k h) ∙ diskOf-durable blocks 0 (writes es sam) (logged log es) (written-length es)
+-- ---- a commit
 
-  -- wherever it is crashed, the disk opens
-  pub commit-opens : (k : ℕ) → 1 ≤ blocks → blocks ≤ 4096 → noBitsFrom blocks sam ≡ true → entriesValid blocks 0 es ≡ true → length es ≤ wordsFor blocks → openError (commitDisk blocks sam log es k) ≡ none
-  unfolding entriesIn entriesValid
-  commit-opens k low high noBits valid few =
-      by-phase
-      (λ (disk : List ℕ). openError disk ≡ none)
-      k
-      (λ w l. diskOf-opens blocks 0 sam w (from .sam-length) l low high noBits (omega arith) refl)
-      (λ j.
-      diskOf-opens
-      blocks
-      (length es)
-      (writes (take j es) sam)
-      (logged log es)
-      (written-length (take j es))
-      logged-length
-      low
-      high
-      (writes-take-noBits blocks j es sam noBits valid)
-      few
-      (rw logged-entries valid))
-      (diskOf-opens blocks 0 (writes es sam) (logged log es) (written-length es) logged-length low high (writes-noBits blocks es sam noBits valid) (omega arith) refl)
-    where
-      logged-length : length (logged log es) ≡ 256
-      logged-length = length-writes (logStores 0 es) log ∙ from .log-length
+-- the disk after k stores of the commit
+abbrev pub commitDisk : ℕ → List ℕ → List ℕ → List Store → ℕ → List ℕ
+commitDisk blocks sam log es k = after k (commitStores es) (diskOf blocks 0 sam log)
+
+module _ (blocks : ℕ) (sam log : List ℕ) (es : List Store) (from : CommitFrom sam log es) where
+  -- as a journal's
+  pub commit-journal : (k : ℕ) → commitDisk blocks sam log es k ≡ journalDisk blocks (commitPoint es) sam log closingStores es k
+  unfolding commitStores
+  commit-journal k = refl
+
+  pub commit-before : (k : ℕ) → k ≤ 2 * length es → commitDisk blocks sam log es k ≡ diskOf blocks 0 sam (writes (take k (logStores 0 es)) log)
+  commit-before k h = commit-journal k ∙ journal-before blocks (commitPoint es) sam log closingStores es from k h
+
+  pub commit-after : (k : ℕ) → 2 * length es < k → k < 3 * length es + 2
+      → commitDisk blocks sam log es k ≡ diskOf blocks (commitPoint es) (writes (take (k - (2 * length es + 1)) es) sam) (logged log es)
+  commit-after k h g = commit-journal k ∙ journal-after blocks (commitPoint es) sam log closingStores es from k h (omega arith)
+
+  -- at the end word 1 is 0
+  pub commit-end : (k : ℕ) → 3 * length es + 2 ≤ k → commitDisk blocks sam log es k ≡ diskOf blocks 0 (writes es sam) (logged log es)
+  unfolding writes
+  commit-end k h =
+      commit-journal k
+      ∙ journal-closing blocks (commitPoint es) sam log closingStores es from k (omega arith)
+      ∙ ap (λ (s : List Store). writes s (diskOf blocks (commitPoint es) (writes es sam) (logged log es))) (take-all (k - (3 * length es + 1)) closingStores (omega arith))
 
 -- the log words of the disk itself serve as well as those that it started from
 pub commit-own-log : (blocks : ℕ) (sam log : List ℕ) (es : List Store) → CommitFrom sam log es → (k : ℕ) → commitDisk blocks sam (drop logAt (commitDisk blocks sam log es k)) es k ≡ commitDisk blocks sam log es k
@@ -201,14 +200,14 @@ commit-own-log blocks sam log es from k = go (decLe k (2 * length es)) (decLe (3
     disk : List ℕ
     disk = commitDisk blocks sam log es k
 
-    again : (own : List ℕ) → length own ≡ 256 → CommitFrom sam own es
+    again : (own : List ℕ) → length own ≡ logWords → CommitFrom sam own es
     again own l = record { sam-length = from .sam-length; log-length = l; places = from .places; few = from .few }
 
-    own-log : (p : ℕ) (words own : List ℕ) → disk ≡ diskOf blocks p words own → length words ≡ 128 → commitDisk blocks sam own es k ≡ diskOf blocks p words own → commitDisk blocks sam (drop logAt disk) es k ≡ disk
+    own-log : (p : ℕ) (words own : List ℕ) → disk ≡ diskOf blocks p words own → length words ≡ bitmapWords → commitDisk blocks sam own es k ≡ diskOf blocks p words own → commitDisk blocks sam (drop logAt disk) es k ≡ disk
     own-log p words own e l f =
         ap (λ (w : List ℕ). commitDisk blocks sam w es k) (ap (drop logAt) e ∙ diskOf-log blocks p words own l) ∙ f ∙ sym e
 
-    written : (s : List Store) → length (writes s log) ≡ 256
+    written : (s : List Store) → length (writes s log) ≡ logWords
     written s = length-writes s log ∙ from .log-length
 
     go : Dec (k ≤ 2 * length es) → Dec (3 * length es + 2 ≤ k) → commitDisk blocks sam (drop logAt disk) es k ≡ disk

@@ -12,8 +12,7 @@ use lib.Dec.{leb, ltb, eqb}
 use borrow.Author.Tests.{ltb-true, leb-true, eqb-false, eq-eqb, lt-ltb, le-leb}
 use Rattle.bitmap.specs.Sizes.{wordsFor}
 use Rattle.bitmap.specs.Bits.{noBitsFrom}
-use Rattle.model.specs.Sizes.{lengthAt}
-use Rattle.model.specs.Stores.{Store, _≔_, writes, changesFrom, changes, logStores, onDisk, checkpointStores, commitStores}
+use Rattle.model.specs.Stores.{Store, _≔_, writes, changesFrom, changes, logStores, onDisk, checkpointWith, journalWith, commitPoint, closingStores, commitStores}
 use Rattle.model.specs.Disk.{entriesIn, entriesValid, entriesAgree}
 use Rattle.model.proofs.Laws.Writes.{and-both, and-first, and-second}
 
@@ -24,13 +23,18 @@ unfolding logStores
 length-logStores at [] = refl
 length-logStores at (e ∷ es) = omega (arith, length-logStores (at + 2) es)
 
-pub length-checkpointStores : (es : List Store) → length (checkpointStores es) ≡ length es + 1
-unfolding checkpointStores
-length-checkpointStores es = length-append (map onDisk es) (lengthAt ≔ 0 ∷ []) ∙ ap (λ (n : ℕ). n + 1) (length-map es onDisk)
+pub length-checkpointWith : (closing es : List Store) → length (checkpointWith closing es) ≡ length es + length closing
+unfolding checkpointWith
+length-checkpointWith closing es = length-append (map onDisk es) closing ∙ ap (λ (n : ℕ). n + length closing) (length-map es onDisk)
 
+pub length-journalWith : (point : ℕ) (closing es : List Store) → length (journalWith point closing es) ≡ 3 * length es + 1 + length closing
+unfolding journalWith
+length-journalWith point closing es = simp (length-append, length-logStores, length-checkpointWith) (omega arith)
+
+-- 3·d + 2
 pub length-commitStores : (es : List Store) → length (commitStores es) ≡ 3 * length es + 2
 unfolding commitStores
-length-commitStores es = simp (length-append, length-logStores, length-checkpointStores) (omega arith)
+length-commitStores es = omega (arith, length-journalWith (commitPoint es) closingStores es)
 
 -- every entry's place is below n
 abbrev pub Places : ℕ → List Store → Type 0
@@ -217,9 +221,6 @@ writes-noBits blocks es words p q = writes-noBits-from blocks 0 es words p q
 pub writes-take-noBits : (blocks k : ℕ) (es : List Store) (words : List ℕ) → noBitsFrom blocks words ≡ true → entriesValid blocks 0 es ≡ true → noBitsFrom blocks (writes (take k es) words) ≡ true
 writes-take-noBits blocks k es words p q = writes-noBits-from blocks 0 (take k es) words p (valid-take blocks 0 k es q)
 
-pub writes-drop-noBits : (blocks k : ℕ) (es : List Store) (words : List ℕ) → noBitsFrom blocks words ≡ true → entriesValid blocks 0 es ≡ true → noBitsFrom blocks (writes (drop k es) words) ≡ true
-writes-drop-noBits blocks k es words p q = writes-noBits-from blocks 0 (drop k es) words p (valid-drop blocks 0 k es q)
-
 -- a changed word's number is below W: from W on both words are 0
 changed-below : (blocks k x y : ℕ) → x < 2 ^ (blocks - 32 * k) → y < 2 ^ (blocks - 32 * k) → eqb x y ≡ false → k < wordsFor blocks
 changed-below blocks k x y hx hy ne = go (decLt k (wordsFor blocks))
@@ -315,11 +316,16 @@ take-map f zero s = refl
 take-map f (suc k) [] = refl
 take-map f (suc k) (e ∷ s) = ap {B = List Store} (λ r. f e ∷ r) (take-map f k s)
 
--- the first stores that checkpoint the bitmap
-pub take-checkpointStores : (k : ℕ) (es : List Store) → k ≤ length es → take k (checkpointStores es) ≡ map onDisk (take k es)
-unfolding checkpointStores
-take-checkpointStores k es h =
-    take-append-le k (map onDisk es) (lengthAt ≔ 0 ∷ []) (omega (arith, length-map es onDisk)) ∙ take-map onDisk k es
+pub drop-map : (f : Store → Store) (k : ℕ) (s : List Store) → drop k (map f s) ≡ map f (drop k s)
+drop-map f zero s = refl
+drop-map f (suc k) [] = refl
+drop-map f (suc k) (e ∷ s) = drop-map f k s
+
+-- the first stores of a checkpoint
+pub take-checkpoint : (closing : List Store) (k : ℕ) (es : List Store) → k ≤ length es → take k (checkpointWith closing es) ≡ map onDisk (take k es)
+unfolding checkpointWith
+take-checkpoint closing k es h =
+    take-append-le k (map onDisk es) closing (omega (arith, length-map es onDisk)) ∙ take-map onDisk k es
 
 -- the log's stores, wherever the log starts
 
@@ -357,6 +363,16 @@ entries-logged (e ∷ es) (x ∷ y ∷ log) h =
     (ap (λ (s : List Store). writes s (e .place ∷ e .value ∷ log)) (logStores-from 2 es)
     ∙ writes-shift (e .place ∷ e .value ∷ []) 2 (logStores 0 es) log refl)
     ∙ ap {B = List Store} (λ r. e ∷ r) (entries-logged es log (omega arith))
+
+-- the first entries go by the first words
+pub entries-take : (n m : ℕ) (words : List ℕ) → 2 * n ≤ m → entriesIn n (take m words) ≡ entriesIn n words
+unfolding entriesIn
+entries-take zero m words h = refl
+entries-take (suc n) zero words h = absurd (omega arith)
+entries-take (suc n) (suc zero) words h = absurd (omega arith)
+entries-take (suc n) (suc (suc m)) [] h = refl
+entries-take (suc n) (suc (suc m)) (x ∷ []) h = refl
+entries-take (suc n) (suc (suc m)) (x ∷ y ∷ words) h = ap {B = List Store} (λ r. x ≔ y ∷ r) (entries-take n m words (omega arith))
 
 pub length-entriesIn : (n : ℕ) (words : List ℕ) → 2 * n ≤ length words → length (entriesIn n words) ≡ n
 unfolding entriesIn

@@ -1,4 +1,4 @@
--- The memory that an open gives is valid, with any number of its stores done, and the disk is as it leaves it.
+-- The memory that an open gives is valid, and the disk is as it leaves it.
 use Prim.Native.Nat.{ℕ, zero, suc, _+_, _/_, _≤_, _<_}
 use native.Mathlib.Omega.{arith}
 use mathlib.Core.Path.{_≡_, refl, sym, ap, _∙_}
@@ -14,14 +14,15 @@ use Rattle.model.specs.Memory.{quietMemory, bitmap, idleSlot}
 use Rattle.model.specs.Sizes.{logAt}
 use Rattle.model.specs.Stores.{writes}
 use Rattle.model.specs.Valid.{allSlots, slotValid, touches, touchesAgree, isQuiet, pendingValid}
-use Rattle.model.specs.Disk.{diskBlocks, logLength, diskBitmap, diskOf, entriesIn, logEntries, durable, diskMatches}
+use Rattle.model.specs.Disk.{diskBlocks, logLength, diskBitmap, diskOf, entriesIn, logEntries, durable, recoveryMatches, diskMatches}
 use Rattle.model.specs.Calls.Opening.{openError, recoveryDue, recoveryPending, opened}
 use Rattle.model.proofs.Laws.Writes.{and-both, words-same}
-use Rattle.model.proofs.Laws.DiskParts.{Opens, opens-parts, disk-parts}
+use Rattle.model.proofs.Laws.DiskParts.{Opens, opens-parts, disk-parts, log-valid}
 use Rattle.model.proofs.Laws.Valid.{ValidParts, idle-valid}
 use Rattle.model.proofs.Laws.Touches.{one, xor-self}
-use Rattle.model.proofs.Laws.Matching.{quiet-matches}
-use Rattle.model.proofs.Laws.RecoveryLog.{durable-length, durable-noBits, recovery-matches}
+use Rattle.model.proofs.Laws.Matching.{quiet-matches, parts-matching}
+use Rattle.model.proofs.Laws.Committing.{parts-recovery}
+use Rattle.model.proofs.Laws.Durable.{durable-length, durable-noBits, durable-agrees}
 
 all-idle : (blocks n : ℕ) → allSlots (slotValid blocks) (replicate n idleSlot) ≡ true
 unfolding allSlots
@@ -50,15 +51,31 @@ module _ (disk : List ℕ) (opens : openError disk ≡ none) where
         pending-valid = valid;
       }
 
-  -- k stores of its recovery are done
-  pub recovery-pending-valid : (k due : ℕ) → due ≡ logLength disk + 1 → 1 ≤ logLength disk → k < due → pendingValid (memoryWith (Recovery k due)) (Recovery k due) ≡ true
-  unfolding pendingValid isQuiet allSlots
-  recovery-pending-valid k due due-is logged h =
-      and-both
-      (and-both
-      (and-both (words-same (durable disk)) (le-leb 2 due (omega arith)))
-      (le-leb due ((diskBlocks disk + 31) / 32 + 1) (omega (arith, parts .few-entries))))
-      (lt-ltb k due h)
+  -- the stores of a recovery are due
+  due-valid : (due : ℕ) → due ≡ logLength disk + 1 → 1 ≤ logLength disk → pendingValid (memoryWith (Recovery 0 due)) (Recovery 0 due) ≡ true
+  unfolding isQuiet allSlots
+  due-valid due due-is logged =
+      parts-recovery (memoryWith (Recovery 0 due)) 0 due
+      (record {
+        quiet = words-same (durable disk);
+        some-logged = omega arith;
+        few-logged = omega (arith, parts .few-entries);
+        not-ended = omega arith;
+      })
+
+  -- all of the log is still to be written
+  due-matches : (due : ℕ) → due ≡ logLength disk + 1 → recoveryMatches (memoryWith (Recovery 0 due)) disk 0 due ≡ true
+  unfolding durable
+  due-matches due due-is =
+      parts-matching (memoryWith (Recovery 0 due)) disk 0 due
+      (record {
+        blocks = refl;
+        due-is = sym due-is;
+        log = log-valid disk (parts .few-entries) (parts .entries);
+        agrees = durable-agrees disk opens;
+        noBits = parts .noBits;
+        rest = refl;
+      })
 
   -- ---- just opened
 
@@ -70,9 +87,7 @@ module _ (disk : List ℕ) (opens : openError disk ≡ none) where
       ∙ ap (λ (p : ℕ). diskOf (diskBlocks disk) p (diskBitmap disk) (drop logAt disk)) e
       ∙ ap (λ (words : List ℕ). diskOf (diskBlocks disk) 0 words (drop logAt disk))
       (sym (ap (λ (p : ℕ). writes (entriesIn p (drop logAt disk)) (diskBitmap disk)) e)))
-  by-log-matches (suc p) e =
-      ap (λ (n : ℕ). diskMatches (memoryWith (Recovery 0 n)) disk (Recovery 0 n)) (ap (λ (n : ℕ). n + 1) (sym e))
-      ∙ recovery-matches disk opens (memoryWith (Recovery 0 (logLength disk + 1))) 0 (omega (arith, e)) refl refl
+  by-log-matches (suc p) e = due-matches (suc p + 1) (omega (arith, e))
 
   pub opened-matches : diskMatches (opened disk) disk (opened disk .pending) ≡ true
   unfolding opened
@@ -82,7 +97,7 @@ module _ (disk : List ℕ) (opens : openError disk ≡ none) where
   unfolding recoveryPending recoveryDue pendingValid
   by-log-valid zero e = quiet-valid Nothing refl
   by-log-valid (suc p) e =
-      quiet-valid (Recovery 0 (suc p + 1)) (recovery-pending-valid 0 (suc p + 1) (omega (arith, e)) (omega (arith, e)) (omega arith))
+      quiet-valid (Recovery 0 (suc p + 1)) (due-valid (suc p + 1) (omega (arith, e)) (omega (arith, e)))
 
   pub opened-valid : ValidParts (opened disk)
   unfolding opened

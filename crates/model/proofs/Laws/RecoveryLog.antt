@@ -1,213 +1,198 @@
--- A recovery that is crashed after any number of its stores: the disk stands for the same bitmap throughout.
-use Prim.Native.Nat.{ℕ, _+_, _≤_}
+-- The next store of a recovery, on any disk that opens: a logged word, or at the end a closing store. What the disk stands for
+-- stays, for all closing stores that leave bitmap and log alone; and the disk is as the memory and one more store leave it.
+use Prim.Native.Nat.{ℕ, _+_, _-_, _*_, _≤_, _<_}
+use native.Mathlib.Omega.{arith}
 use mathlib.Core.Path.{_≡_, refl, sym, ap, ap₂, _∙_, subst}
 use mathlib.Core.Bool.{true}
 use mathlib.Core.Option.{none}
-use mathlib.Core.List.{List, map}
-use native.Mathlib.Omega.{arith}
-use native.Mathlib.Decide.{decLe}
-use lib.ListN.{length, take, drop}
-use lib.Seq.{take-all}
+use mathlib.Core.List.{List, _++_, map}
+use lib.ListN.{length, getD, take, drop, take-append-drop, length-map, length-drop, drop-of-length-le}
+use lib.Seq.{drop-append-le, take-append-le, drop-append-add, drop-drop}
+use Rattle.bitmap.specs.Sizes.{bitmapWords}
 use Rattle.bitmap.specs.Bits.{noBitsFrom}
 use Rattle.model.specs.Types.{Memory}
-use Rattle.model.specs.Sizes.{logAt}
-use Rattle.model.specs.Stores.{Store, writes, after, onDisk, checkpointStores}
-use Rattle.model.specs.Disk.{diskBlocks, logLength, diskBitmap, diskOf, entriesIn, logEntries, entriesValid, durable, entriesAgree, recoveryMatches}
+use Rattle.model.specs.Sizes.{logAt, lengthAt, logWords}
+use Rattle.model.specs.Stores.{Store, writes, onDisk, checkpointWith, closingStores}
+use Rattle.model.specs.Valid.{sameWords}
+use Rattle.model.specs.Disk.{diskBlocks, logLength, diskBitmap, diskOf, entriesIn, logEntries, entriesValid, entriesAgree, durable, baseImage}
 use Rattle.model.specs.Calls.Opening.{openError}
-use Rattle.model.proofs.Laws.Writes.{length-writes, writes-take-again, writes-take-drop, store-next-one}
-use Rattle.model.proofs.Laws.Entries.{Places, places-take, valid-places, length-checkpointStores, take-checkpointStores, length-entriesIn, entries-agree, writes-noBits, writes-take-noBits}
-use Rattle.model.proofs.Laws.DiskParts.{diskOf-bitmap, diskOf-entries, diskOf-durable, diskOf-opens, disk-parts, disk-bitmap-length, disk-log-length, writes-onDisk, writes-checkpoint, log-valid}
-use Rattle.model.proofs.Laws.Matching.{parts-matching}
-pub use Rattle.model.proofs.Laws.DiskParts.{Opens, opens-parts, parts-open}
+use Rattle.model.proofs.Laws.Writes.{writes-append, writes-again, length-writes}
+use Rattle.model.proofs.Laws.Entries.{places-take, places-drop, valid-take, valid-drop, writes-noBits-from, take-map, drop-map}
+use Rattle.model.proofs.Laws.DiskParts.{Opens, opens-parts, diskOf-bitmap, diskOf-entries, diskOf-durable, disk-parts, writes-onDisk, diskOf-opens, log-valid}
+use Rattle.model.proofs.Laws.Closing.{Closing, closing-take, closing-drop, Closed, closed, closed-durable, closed-opens}
+use Rattle.model.proofs.Laws.Matching.{RecoveryMatches, quiet-matches}
+use Rattle.model.proofs.Laws.Durable.{bitmap-length, log-length, entries-places, entries-length}
 
--- the disk after k stores of its recovery
-abbrev pub recoveryDisk : List ℕ → ℕ → List ℕ
-recoveryDisk disk k = after k (checkpointStores (logEntries disk)) disk
+-- ---- the stores of a checkpoint, one by one
 
-module _ (disk : List ℕ) (opens : openError disk ≡ none) where
+module _ (closing es : List Store) (k : ℕ) where
+  -- a logged word
+  next-word : k < length es → take 1 (drop k (checkpointWith closing es)) ≡ map onDisk (take 1 (drop k es))
+  unfolding checkpointWith
+  next-word h =
+      ap (take 1) (drop-append-le k (map onDisk es) closing (omega (arith, length-map es onDisk)) ∙ ap (λ (l : List Store). l ++ closing) (drop-map onDisk k es))
+      ∙ take-append-le 1 (map onDisk (drop k es)) closing (omega (arith, length-map (drop k es) onDisk, length-drop k es))
+      ∙ take-map onDisk 1 (drop k es)
+
+  -- a closing store
+  next-closing : length es ≤ k → take 1 (drop k (checkpointWith closing es)) ≡ take 1 (drop (k - length es) closing)
+  unfolding checkpointWith
+  next-closing h =
+      let e : k ≡ length (map onDisk es) + (k - length es) = omega (arith, length-map es onDisk) in
+      ap (take 1) (ap (λ (n : ℕ). drop n (map onDisk es ++ closing)) e ∙ drop-append-add (map onDisk es) closing (k - length es))
+
+-- writing one entry again before all of them
+entry-again : (k : ℕ) (es : List Store) (words : List ℕ) → writes es (writes (take 1 (drop k es)) words) ≡ writes es words
+entry-again k es words =
+    subst (λ (l : List Store). writes l (writes (take 1 (drop k es)) words) ≡ writes l words)
+    (ap (λ (l : List Store). take k es ++ l) (take-append-drop 1 (drop k es)) ∙ take-append-drop k es)
+    (writes-again (take k es) (take 1 (drop k es)) (drop 1 (drop k es)) words)
+
+-- the disk after the next store of a checkpoint with k of them done
+abbrev pub checkpointNext : List Store → List ℕ → ℕ → List ℕ
+checkpointNext closing disk k = writes (take 1 (drop k (checkpointWith closing (logEntries disk)))) disk
+
+module _ (closing : List Store) (disk : List ℕ) (opens : openError disk ≡ none) where
   parts : Opens disk
   parts = opens-parts disk opens
 
-  bitmap-length : length (diskBitmap disk) ≡ 128
-  bitmap-length = disk-bitmap-length disk (parts .size)
+  abbrev words : List ℕ
+  words = diskBitmap disk
 
-  log-length : length (drop logAt disk) ≡ 256
-  log-length = disk-log-length disk (parts .size)
+  abbrev log : List ℕ
+  log = drop logAt disk
 
-  entries-places : Places 128 (logEntries disk)
-  entries-places = valid-places (diskBlocks disk) 0 (logEntries disk) (parts .entries) (parts .few-blocks)
+  size : length words ≡ bitmapWords
+  size = bitmap-length disk opens
 
-  written-length : (s : List Store) → length (writes s (diskBitmap disk)) ≡ 128
-  written-length s = length-writes s (diskBitmap disk) ∙ bitmap-length
+  whole : disk ≡ diskOf (diskBlocks disk) (getD disk lengthAt 0) words log
+  whole = disk-parts disk (omega (arith, parts .size))
 
-  disk-is : disk ≡ diskOf (diskBlocks disk) (logLength disk) (diskBitmap disk) (drop logAt disk)
-  disk-is = disk-parts disk (omega (arith, parts .size))
-
-  -- the log has as many entries as word 1 says
-  pub entries-length : length (logEntries disk) ≡ logLength disk
+  entries-there : entriesIn (logLength disk) log ≡ logEntries disk
   unfolding logEntries
-  entries-length = length-entriesIn (logLength disk) (drop logAt disk) (omega (arith, log-length, parts .few-entries, parts .few-blocks))
+  entries-there = refl
 
-  pub durable-length : length (durable disk) ≡ 128
-  unfolding durable
-  durable-length = written-length (logEntries disk)
+  valid-there : entriesValid (diskBlocks disk) 0 (entriesIn (logLength disk) log) ≡ true
+  valid-there = ap (entriesValid (diskBlocks disk) 0) entries-there ∙ parts .entries
 
-  pub durable-noBits : noBitsFrom (diskBlocks disk) (durable disk) ≡ true
-  unfolding durable
-  durable-noBits = writes-noBits (diskBlocks disk) (logEntries disk) (diskBitmap disk) (parts .noBits) (parts .entries)
+  -- ---- a logged word is written
+  module _ (k : ℕ) (h : k < logLength disk) where
+    abbrev one : List Store
+    one = take 1 (drop k (logEntries disk))
 
-  -- the disk by its parts, before the last store
-  pub recovery-checkpointing : (k : ℕ) → k ≤ logLength disk → recoveryDisk disk k ≡ diskOf (diskBlocks disk) (logLength disk) (writes (take k (logEntries disk)) (diskBitmap disk)) (drop logAt disk)
-  recovery-checkpointing k h =
-      ap (λ (s : List Store). writes s disk) (take-checkpointStores k (logEntries disk) (omega (arith, entries-length)))
-      ∙ ap (writes (map onDisk (take k (logEntries disk)))) disk-is
-      ∙ writes-onDisk
-      (diskBlocks disk)
-      (logLength disk)
-      (diskBitmap disk)
-      (drop logAt disk)
-      (take k (logEntries disk))
-      bitmap-length
-      (places-take 128 k (logEntries disk) entries-places)
+    checkpointed : checkpointNext closing disk k ≡ diskOf (diskBlocks disk) (getD disk lengthAt 0) (writes one words) log
+    checkpointed =
+        ap₂ writes (next-word closing (logEntries disk) k (omega (arith, entries-length disk opens))) whole
+        ∙ writes-onDisk (diskBlocks disk) (getD disk lengthAt 0) words log size one
+        (places-take bitmapWords 1 (drop k (logEntries disk)) (places-drop bitmapWords k (logEntries disk) (entries-places disk opens)))
 
-  -- the disk by its parts, at the end
-  pub recovery-end : (k : ℕ) → logLength disk + 1 ≤ k → recoveryDisk disk k ≡ diskOf (diskBlocks disk) 0 (durable disk) (drop logAt disk)
-  unfolding durable
-  recovery-end k h =
-      ap
-      (λ (s : List Store). writes s disk)
-      (take-all k (checkpointStores (logEntries disk)) (omega (arith, length-checkpointStores (logEntries disk), entries-length)))
-      ∙ ap (writes (checkpointStores (logEntries disk))) disk-is
-      ∙ writes-checkpoint (diskBlocks disk) (logLength disk) (diskBitmap disk) (drop logAt disk) (logEntries disk) bitmap-length entries-places
+    one-size : length (writes one words) ≡ bitmapWords
+    one-size = length-writes one words ∙ size
 
-  -- every k is before the last store or at the end
-  by-phase : (P : List ℕ → Type 0) (k : ℕ)
-      → (k ≤ logLength disk → P (diskOf (diskBlocks disk) (logLength disk) (writes (take k (logEntries disk)) (diskBitmap disk)) (drop logAt disk)))
-      → P (diskOf (diskBlocks disk) 0 (durable disk) (drop logAt disk))
-      → P (recoveryDisk disk k)
-  by-phase P k checkpointing ended = go (decLe k (logLength disk))
-    where
-      go : Dec (k ≤ logLength disk) → P (recoveryDisk disk k)
-      go (yes h) = subst P (sym (recovery-checkpointing k h)) (checkpointing h)
-      go (no h) = subst P (sym (recovery-end k (omega arith))) ended
+    pub checkpointed-opens : openError (checkpointNext closing disk k) ≡ none
+    checkpointed-opens =
+        ap openError checkpointed
+        ∙ diskOf-opens (diskBlocks disk) (getD disk lengthAt 0) (writes one words) log one-size (log-length disk opens) (parts .some-blocks) (parts .few-blocks)
+        (writes-noBits-from (diskBlocks disk) 0 one words (parts .noBits)
+        (valid-take (diskBlocks disk) 0 1 (drop k (logEntries disk)) (valid-drop (diskBlocks disk) 0 k (logEntries disk) (parts .entries))))
+        (parts .few-entries)
+        valid-there
 
-  pub recovery-length : (k : ℕ) → length (recoveryDisk disk k) ≡ 386
-  recovery-length k = length-writes (take k (checkpointStores (logEntries disk))) disk ∙ parts .size
+    pub checkpointed-durable : durable (checkpointNext closing disk k) ≡ durable disk
+    unfolding durable
+    checkpointed-durable =
+        ap durable checkpointed
+        ∙ diskOf-durable (diskBlocks disk) (getD disk lengthAt 0) (writes one words) log one-size
+        ∙ ap (λ (es : List Store). writes es (writes one words)) entries-there
+        ∙ entry-again k (logEntries disk) words
 
-  pub recovery-blocks : (k : ℕ) → diskBlocks (recoveryDisk disk k) ≡ diskBlocks disk
-  recovery-blocks k = by-phase (λ (d : List ℕ). diskBlocks d ≡ diskBlocks disk) k (λ h. refl) refl
+    -- the logged words still to be rewritten are one fewer
+    one-fewer : writes (drop (k + 1) (logEntries disk)) (writes one words) ≡ writes (drop k (logEntries disk)) words
+    one-fewer =
+        ap (λ (es : List Store). writes es (writes one words)) (sym (drop-drop 1 k (logEntries disk)))
+        ∙ sym (writes-append one (drop 1 (drop k (logEntries disk))) words)
+        ∙ ap (λ (es : List Store). writes es words) (take-append-drop 1 (drop k (logEntries disk)))
 
-  -- before the last store
+    pub checkpointed-matches : (memory : Memory) (due : ℕ) → RecoveryMatches memory disk k due → RecoveryMatches memory (checkpointNext closing disk k) (k + 1) due
+    checkpointed-matches memory due m =
+        record {
+          blocks = blocks;
+          due-is = ap (λ (d : List ℕ). logLength d + 1) checkpointed ∙ m .due-is;
+          log = log-valid (checkpointNext closing disk k) (after .few-entries) (after .entries);
+          agrees = ap (entriesAgree (memory .sam .words)) entries ∙ m .agrees;
+          noBits = ap (λ (n : ℕ). noBitsFrom n (diskBitmap (checkpointNext closing disk k))) (sym blocks) ∙ after .noBits;
+          rest =
+              ap₂ (λ (es : List Store) (w : List ℕ). writes (drop (k + 1) es) w) entries
+              (ap (λ (d : List ℕ). diskBitmap d) checkpointed ∙ diskOf-bitmap (diskBlocks disk) (getD disk lengthAt 0) (writes one words) log one-size)
+              ∙ one-fewer
+              ∙ m .rest;
+        }
+      where
+        after : Opens (checkpointNext closing disk k)
+        after = opens-parts (checkpointNext closing disk k) checkpointed-opens
 
-  pub checkpointing-logLength : (k : ℕ) → k ≤ logLength disk → logLength (recoveryDisk disk k) ≡ logLength disk
-  checkpointing-logLength k h = ap (λ (d : List ℕ). logLength d) (recovery-checkpointing k h)
+        blocks : diskBlocks (checkpointNext closing disk k) ≡ memory .blocks
+        blocks = ap (λ (d : List ℕ). diskBlocks d) checkpointed ∙ m .blocks
 
-  pub checkpointing-bitmap : (k : ℕ) → k ≤ logLength disk → diskBitmap (recoveryDisk disk k) ≡ writes (take k (logEntries disk)) (diskBitmap disk)
-  checkpointing-bitmap k h =
-      let some : List ℕ = writes (take k (logEntries disk)) (diskBitmap disk) in
-      ap (λ (d : List ℕ). diskBitmap d) (recovery-checkpointing k h)
-      ∙ diskOf-bitmap (diskBlocks disk) (logLength disk) some (drop logAt disk) (written-length (take k (logEntries disk)))
+        entries : logEntries (checkpointNext closing disk k) ≡ logEntries disk
+        entries =
+            ap logEntries checkpointed
+            ∙ diskOf-entries (diskBlocks disk) (getD disk lengthAt 0) (writes one words) log one-size
+            ∙ entries-there
 
-  pub checkpointing-entries : (k : ℕ) → k ≤ logLength disk → logEntries (recoveryDisk disk k) ≡ logEntries disk
-  unfolding logEntries
-  checkpointing-entries k h =
-      let some : List ℕ = writes (take k (logEntries disk)) (diskBitmap disk) in
-      ap logEntries (recovery-checkpointing k h)
-      ∙ diskOf-entries (diskBlocks disk) (logLength disk) some (drop logAt disk) (written-length (take k (logEntries disk)))
+  -- ---- a closing store is made
 
-  -- at the end
+  -- every logged word has been rewritten: words 2 to 129 are SAM
+  pub all-rewritten : (memory : Memory) (k due : ℕ) → logLength disk ≤ k → RecoveryMatches memory disk k due → diskBitmap disk ≡ memory .sam .words
+  unfolding writes
+  all-rewritten memory k due h m =
+      ap (λ (es : List Store). writes es words)
+      (sym (drop-of-length-le (logEntries disk) {i = k} (omega (arith, entries-length disk opens))))
+      ∙ m .rest
 
-  pub ended-logLength : (k : ℕ) → logLength disk + 1 ≤ k → logLength (recoveryDisk disk k) ≡ 0
-  ended-logLength k h = ap (λ (d : List ℕ). logLength d) (recovery-end k h)
+  module _ (k : ℕ) (h : logLength disk ≤ k) (c : Closing closing) where
+    closed-next : Closed (diskBlocks disk) (getD disk lengthAt 0) words log (checkpointNext closing disk k)
+    closed-next =
+        rw (next-closing closing (logEntries disk) k (omega (arith, entries-length disk opens)))
+        (subst (λ (d : List ℕ). Closed (diskBlocks disk) (getD disk lengthAt 0) words log (writes next d)) (sym whole)
+        (closed (diskBlocks disk) words size (getD disk lengthAt 0) log next (closing-take 1 (drop (k - length (logEntries disk)) closing) (closing-drop (k - length (logEntries disk)) closing c))))
+      where
+        next : List Store
+        next = take 1 (drop (k - length (logEntries disk)) closing)
 
-  pub ended-bitmap : (k : ℕ) → logLength disk + 1 ≤ k → diskBitmap (recoveryDisk disk k) ≡ durable disk
-  ended-bitmap k h =
-      ap (λ (d : List ℕ). diskBitmap d) (recovery-end k h)
-      ∙ diskOf-bitmap (diskBlocks disk) 0 (durable disk) (drop logAt disk) durable-length
+    fits-log : 2 * logLength disk ≤ logWords
+    fits-log = omega (arith, parts .few-entries, parts .few-blocks)
 
-  -- after any number of stores
+    pub closing-opens : openError (checkpointNext closing disk k) ≡ none
+    closing-opens =
+        closed-opens (diskBlocks disk) words size (getD disk lengthAt 0) log fits-log (checkpointNext closing disk k) closed-next (log-length disk opens)
+        (parts .some-blocks) (parts .few-blocks) (parts .noBits) (parts .few-entries) valid-there
 
-  checkpointing-durable : (k : ℕ) → durable (diskOf (diskBlocks disk) (logLength disk) (writes (take k (logEntries disk)) (diskBitmap disk)) (drop logAt disk)) ≡ durable disk
-  unfolding durable logEntries
-  checkpointing-durable k =
-      diskOf-durable
-      (diskBlocks disk)
-      (logLength disk)
-      (writes (take k (logEntries disk)) (diskBitmap disk))
-      (drop logAt disk)
-      (written-length (take k (logEntries disk)))
-      ∙ writes-take-again k (logEntries disk) (diskBitmap disk)
+    pub closing-durable : durable disk ≡ diskBitmap disk → durable (checkpointNext closing disk k) ≡ diskBitmap disk
+    unfolding durable logEntries
+    closing-durable written =
+        closed-durable (diskBlocks disk) words size (getD disk lengthAt 0) log fits-log (checkpointNext closing disk k) closed-next written
 
-  ended-durable : durable (diskOf (diskBlocks disk) 0 (durable disk) (drop logAt disk)) ≡ durable disk
-  unfolding entriesIn writes
-  ended-durable = diskOf-durable (diskBlocks disk) 0 (durable disk) (drop logAt disk) durable-length
+-- ---- a recovery's last store: word 1 becomes 0
 
-  pub recovery-durable : (k : ℕ) → durable (recoveryDisk disk k) ≡ durable disk
-  recovery-durable k = by-phase (λ (d : List ℕ). durable d ≡ durable disk) k (λ h. checkpointing-durable k) ended-durable
+pub cleared-matches : (disk : List ℕ) → openError disk ≡ none → (memory : Memory) (k due : ℕ)
+    → k ≡ logLength disk
+    → RecoveryMatches memory disk k due
+    → sameWords (checkpointNext closingStores disk k) (baseImage memory (checkpointNext closingStores disk k)) ≡ true
+unfolding writes
+cleared-matches disk opens memory k due e m =
+    ap₂ (λ (n : ℕ) (w : List ℕ). sameWords cleared (diskOf n 0 w (drop logAt cleared))) (sym (m .blocks))
+    (sym (all-rewritten closingStores disk opens memory k due (omega (arith, e)) m))
+    ∙ quiet-matches cleared (diskBlocks disk) (diskBitmap disk) (drop logAt disk) (bitmap-length disk opens) is-cleared
+  where
+    cleared : List ℕ
+    cleared = checkpointNext closingStores disk k
 
-  pub recovery-opens : (k : ℕ) → openError (recoveryDisk disk k) ≡ none
-  unfolding logEntries entriesIn entriesValid
-  recovery-opens k =
-      by-phase
-      (λ (d : List ℕ). openError d ≡ none)
-      k
-      (λ h.
-      diskOf-opens
-      (diskBlocks disk)
-      (logLength disk)
-      (writes (take k (logEntries disk)) (diskBitmap disk))
-      (drop logAt disk)
-      (written-length (take k (logEntries disk)))
-      log-length
-      (parts .some-blocks)
-      (parts .few-blocks)
-      (writes-take-noBits (diskBlocks disk) k (logEntries disk) (diskBitmap disk) (parts .noBits) (parts .entries))
-      (parts .few-entries)
-      (parts .entries))
-      (diskOf-opens
-      (diskBlocks disk)
-      0
-      (durable disk)
-      (drop logAt disk)
-      durable-length
-      log-length
-      (parts .some-blocks)
-      (parts .few-blocks)
-      durable-noBits
-      (omega arith)
-      refl)
+    none-before : k - length (logEntries disk) ≡ 0
+    none-before = omega (arith, e, entries-length disk opens)
 
-  -- the next store of a recovery that reads the log anew
-  pub recovery-next : (k : ℕ) → k ≤ logLength disk → writes (take 1 (drop k (checkpointStores (logEntries (recoveryDisk disk k))))) (recoveryDisk disk k) ≡ recoveryDisk disk (k + 1)
-  recovery-next k h =
-      ap (λ (es : List Store). writes (take 1 (drop k (checkpointStores es))) (recoveryDisk disk k)) (checkpointing-entries k h)
-      ∙ store-next-one k (checkpointStores (logEntries disk)) disk
-
-  -- each logged place of the bitmap that the disk stands for holds its entry's value
-  pub durable-agrees : entriesAgree (durable disk) (logEntries disk) ≡ true
-  unfolding durable
-  durable-agrees = entries-agree (diskBlocks disk) 0 (logEntries disk) (diskBitmap disk) 128 bitmap-length entries-places (parts .entries)
-
-  -- the stores still due make the bitmap that the disk stands for
-  rewritten : (k : ℕ) → writes (drop k (logEntries disk)) (writes (take k (logEntries disk)) (diskBitmap disk)) ≡ durable disk
-  unfolding durable
-  rewritten k = writes-take-drop k (logEntries disk) (diskBitmap disk)
-
-  -- the disk in recovery is as the memory and its stores done leave it
-  pub recovery-matches : (memory : Memory) (k : ℕ) → k ≤ logLength disk → memory .blocks ≡ diskBlocks disk → memory .sam .words ≡ durable disk → recoveryMatches memory (recoveryDisk disk k) k (logLength disk + 1) ≡ true
-  recovery-matches memory k h b s =
-      parts-matching memory checkpointed k (logLength disk + 1)
-      (record {
-        blocks = recovery-blocks k ∙ sym b;
-        due-is = ap (λ (n : ℕ). n + 1) (checkpointing-logLength k h);
-        log = log-valid checkpointed (checkpointed-parts .few-entries) (checkpointed-parts .entries);
-        agrees = rw (s, checkpointing-entries k h) durable-agrees;
-        noBits = ap (λ (n : ℕ). noBitsFrom n (diskBitmap checkpointed)) (b ∙ sym (recovery-blocks k)) ∙ checkpointed-parts .noBits;
-        rest = ap₂ (λ (es : List Store) (words : List ℕ). writes (drop k es) words) (checkpointing-entries k h) (checkpointing-bitmap k h) ∙ rewritten k ∙ sym s;
-      })
-    where
-      checkpointed : List ℕ
-      checkpointed = recoveryDisk disk k
-
-      checkpointed-parts : Opens checkpointed
-      checkpointed-parts = opens-parts checkpointed (recovery-opens k)
+    is-cleared : cleared ≡ diskOf (diskBlocks disk) 0 (diskBitmap disk) (drop logAt disk)
+    is-cleared =
+        ap₂ writes
+        (next-closing closingStores (logEntries disk) k (omega (arith, e, entries-length disk opens)) ∙ ap (λ (n : ℕ). take 1 (drop n closingStores)) none-before)
+        (disk-parts disk (omega (arith, opens-parts disk opens .size)))

@@ -1,15 +1,15 @@
 -- Allocate. "the n lowest blocks with SAM 0 and COM 0 (grantable) get 1 in COM and TAM. Their numbers go to the first n
 -- places of the lent list, rising; later places stay."
 use Prim.Native.Nat.{ℕ}
-use mathlib.Core.Bool.{Bool, _||_}
+use mathlib.Core.Bool.{_||_}
 use mathlib.Core.Option.{Option}
 use mathlib.Core.List.{List, [], _∷_, _++_}
 use lib.ListN.{take, drop, getD}
 use Rattle.bitmap.specs.Blocks.{member}
-use Rattle.model.specs.Types.{Error, GrantAnswer, Slot, Memory, MemoryInvalid, WorkPending, SlotRange, SlotIdle, SlotPrecommitted, CountRange, ListShort, TooFewAvailable}
+use Rattle.model.specs.Types.{Error, GrantAnswer, Memory, MemoryInvalid, WorkPending, SlotRange, SlotIdle, SlotPrecommitted, CountRange, ListShort, TooFewAvailable}
 use Rattle.model.specs.Errors.{first, _⇒_, unlessRefused}
 use Rattle.model.specs.Answers.{granted}
-use Rattle.model.specs.Memory.{withCom, withSlot, slotOf, slotAt, comBit, tamBit, volumeBitmap}
+use Rattle.model.specs.Memory.{withCom, withSlot, withTam, slotAt, comBit, tamBit, volumeBitmap}
 use Rattle.model.specs.Causes.{memoryInvalid, workPending, slotOutOfRange, slotInactive, slotPrecommitted, countOutOfRange, listShort, available, tooFewAvailable}
 
 unfoldable pub allocateError : Memory → ℕ → ℕ → List ℕ → Option Error
@@ -35,7 +35,7 @@ taking memory s blocks =
     withSlot
     (withCom memory (volumeBitmap memory (λ b. member b blocks || comBit memory b)))
     s
-    (slotOf (slotAt memory s .state) (volumeBitmap memory (λ b. member b blocks || tamBit (slotAt memory s) b)))
+    (withTam (slotAt memory s) (volumeBitmap memory (λ b. member b blocks || tamBit (slotAt memory s) b)))
 
 unfoldable pub allocateAnswer : Memory → ℕ → ℕ → List ℕ → GrantAnswer
 allocateAnswer memory s count list = granted (allocateError memory s count list) (getD (lowest memory count) 0 0)

@@ -1,17 +1,15 @@
 -- Commit. "If d is 0, the commit ends in its own call without a store. Otherwise that call answers 3·d + 2, and each
 -- store call makes the next ... The maps in memory change with the last store."
-use Prim.Native.Nat.{ℕ, zero, suc}
-use mathlib.Core.Bool.{Bool, cond}
+use Prim.Native.Nat.{ℕ}
+use mathlib.Core.Bool.{cond}
 use mathlib.Core.Option.{Option}
-use mathlib.Core.List.{List, [], _∷_}
-use lib.ListN.{length}
+use mathlib.Core.List.{[], _∷_}
 use lib.Dec.{eqb}
 use Rattle.model.specs.Types.{Error, StoresAnswer, Commit, Memory, MemoryInvalid, WorkPending, SlotRange, SlotIdle, SlotNotPrecommitted}
 use Rattle.model.specs.Errors.{first, _⇒_, unlessRefused}
 use Rattle.model.specs.Answers.{due}
 use Rattle.model.specs.Memory.{withPending}
-use Rattle.model.specs.Stores.{commitStores}
-use Rattle.model.specs.Commit.{entriesOf, changedOf, committed}
+use Rattle.model.specs.Commit.{changedOf, commitDue, committed}
 use Rattle.model.specs.Causes.{memoryInvalid, workPending, slotOutOfRange, slotInactive, slotNotPrecommitted}
 
 unfoldable pub commitError : Memory → ℕ → Option Error
@@ -23,10 +21,6 @@ commitError memory s =
     ∷ slotInactive memory s ⇒ SlotIdle
     ∷ slotNotPrecommitted memory s ⇒ SlotNotPrecommitted
     ∷ [])
-
--- the stores due: the length of the store list, and none where the commit changes no word
-unfoldable pub commitDue : Memory → ℕ → ℕ
-commitDue memory s = cond (eqb (changedOf memory s) 0) 0 (length (commitStores (entriesOf memory s)))
 
 unfoldable pub committing : Memory → ℕ → Memory
 committing memory s = cond (eqb (changedOf memory s) 0) (committed memory s) (withPending memory (Commit s 0 (commitDue memory s)))

@@ -1,13 +1,13 @@
 -- Deallocate. "one block with SAM 1 and COM 1: it gets 0 in COM and TAM."
 use Prim.Native.Nat.{ℕ}
-use mathlib.Core.Bool.{Bool, not, _&&_}
+use mathlib.Core.Bool.{not, _&&_}
 use mathlib.Core.Option.{Option}
-use mathlib.Core.List.{List, [], _∷_}
+use mathlib.Core.List.{[], _∷_}
 use lib.Dec.{eqb}
 use Rattle.model.specs.Types.{Error, Answer, Memory, MemoryInvalid, WorkPending, SlotRange, SlotIdle, SlotPrecommitted, BlockRange, BlockFree, BlockFreeing}
 use Rattle.model.specs.Errors.{first, _⇒_, unlessRefused}
 use Rattle.model.specs.Answers.{done}
-use Rattle.model.specs.Memory.{withCom, withSlot, slotOf, slotAt, comBit, tamBit, volumeBitmap}
+use Rattle.model.specs.Memory.{withCom, withSlot, withTam, slotAt, comBit, tamBit, volumeBitmap}
 use Rattle.model.specs.Causes.{memoryInvalid, workPending, slotOutOfRange, slotInactive, slotPrecommitted, blockOutOfRange, blockFree, blockFreeing}
 
 unfoldable pub deallocateError : Memory → ℕ → ℕ → Option Error
@@ -29,7 +29,7 @@ freeing memory s block =
     withSlot
     (withCom memory (volumeBitmap memory (λ b. not (eqb b block) && comBit memory b)))
     s
-    (slotOf (slotAt memory s .state) (volumeBitmap memory (λ b. not (eqb b block) && tamBit (slotAt memory s) b)))
+    (withTam (slotAt memory s) (volumeBitmap memory (λ b. not (eqb b block) && tamBit (slotAt memory s) b)))
 
 unfoldable pub deallocateAnswer : Memory → ℕ → ℕ → Answer
 deallocateAnswer memory s block = done (deallocateError memory s block)

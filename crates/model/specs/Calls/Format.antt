@@ -1,10 +1,10 @@
 -- Format. "Format writes all 386 words in one call: m, then zeros."
-use Prim.Native.Nat.{ℕ}
+use Prim.Native.Nat.{ℕ, _-_}
 use mathlib.Core.Option.{Option}
 use mathlib.Core.List.{List, [], _∷_}
 use lib.ListN.{replicate}
-use Rattle.bitmap.specs.Sizes.{bitmapWords}
 use Rattle.model.specs.Types.{Error, Answer, DiskLength, BlocksRange}
+use Rattle.model.specs.Sizes.{diskWords}
 use Rattle.model.specs.Errors.{first, _⇒_, unlessRefused}
 use Rattle.model.specs.Answers.{done}
 use Rattle.model.specs.Causes.{diskLengthWrong, blocksOutOfRange}
@@ -16,9 +16,9 @@ formatError disk blocks =
     ∷ blocksOutOfRange blocks ⇒ BlocksRange
     ∷ [])
 
--- m, then 385 zeros
+-- m, then zeros
 unfoldable pub formatted : ℕ → List ℕ
-formatted blocks = blocks ∷ replicate 385 0
+formatted blocks = blocks ∷ replicate (diskWords - 1) 0
 
 unfoldable pub formatAnswer : List ℕ → ℕ → Answer
 formatAnswer disk blocks = done (formatError disk blocks)

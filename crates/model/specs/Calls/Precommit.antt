@@ -1,11 +1,11 @@
 -- Precommit. "the seat takes no more touches. No map changes."
 use Prim.Native.Nat.{ℕ}
 use mathlib.Core.Option.{Option}
-use mathlib.Core.List.{List, [], _∷_}
+use mathlib.Core.List.{[], _∷_}
 use Rattle.model.specs.Types.{Error, Answer, Precommitted, Memory, MemoryInvalid, WorkPending, SlotRange, SlotIdle, SlotPrecommitted}
 use Rattle.model.specs.Errors.{first, _⇒_, unlessRefused}
 use Rattle.model.specs.Answers.{done}
-use Rattle.model.specs.Memory.{withSlot, slotOf, slotAt}
+use Rattle.model.specs.Memory.{withSlot, withState, slotAt}
 use Rattle.model.specs.Causes.{memoryInvalid, workPending, slotOutOfRange, slotInactive, slotPrecommitted}
 
 unfoldable pub precommitError : Memory → ℕ → Option Error
@@ -19,7 +19,7 @@ precommitError memory s =
     ∷ [])
 
 unfoldable pub precommitting : Memory → ℕ → Memory
-precommitting memory s = withSlot memory s (slotOf Precommitted (slotAt memory s .tam))
+precommitting memory s = withSlot memory s (withState (slotAt memory s) Precommitted)
 
 unfoldable pub precommitAnswer : Memory → ℕ → Answer
 precommitAnswer memory s = done (precommitError memory s)

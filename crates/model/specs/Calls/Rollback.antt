@@ -1,8 +1,8 @@
 -- Rollback. "COM becomes the majority of COM, SAM and the complement of TAM. That is table 2 ... Then the seat is idle."
 use Prim.Native.Nat.{ℕ}
-use mathlib.Core.Bool.{Bool, not}
+use mathlib.Core.Bool.{not}
 use mathlib.Core.Option.{Option}
-use mathlib.Core.List.{List, [], _∷_}
+use mathlib.Core.List.{[], _∷_}
 use Rattle.bitmap.specs.Majority.{majority}
 use Rattle.model.specs.Types.{Error, Answer, Bitmap, Memory, MemoryInvalid, WorkPending, SlotRange, SlotIdle}
 use Rattle.model.specs.Errors.{first, _⇒_, unlessRefused}

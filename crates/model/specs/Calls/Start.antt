@@ -1,11 +1,11 @@
 -- Start. "TAM becomes a copy of SAM, the seat opens."
 use Prim.Native.Nat.{ℕ}
 use mathlib.Core.Option.{Option}
-use mathlib.Core.List.{List, [], _∷_}
+use mathlib.Core.List.{[], _∷_}
 use Rattle.model.specs.Types.{Error, Answer, Open, Memory, MemoryInvalid, WorkPending, SlotRange, SlotBusy}
 use Rattle.model.specs.Errors.{first, _⇒_, unlessRefused}
 use Rattle.model.specs.Answers.{done}
-use Rattle.model.specs.Memory.{withSlot, slotOf}
+use Rattle.model.specs.Memory.{withSlot, withState, withTam, slotAt}
 use Rattle.model.specs.Causes.{memoryInvalid, workPending, slotOutOfRange, slotActive}
 
 unfoldable pub startError : Memory → ℕ → Option Error
@@ -18,7 +18,7 @@ startError memory s =
     ∷ [])
 
 unfoldable pub started : Memory → ℕ → Memory
-started memory s = withSlot memory s (slotOf Open (memory .sam))
+started memory s = withSlot memory s (withState (withTam (slotAt memory s) (memory .sam)) Open)
 
 unfoldable pub startAnswer : Memory → ℕ → Answer
 startAnswer memory s = done (startError memory s)

@@ -2,7 +2,7 @@
 -- answers alone. "The ledger is fed each call's kind, seat and block, its answer, and the numbers that an allocate lists;
 -- it never looks into memory or medium."
 use Prim.Native.Nat.{ℕ, zero, suc, _+_, _*_, _/_}
-use mathlib.Core.Bool.{Bool, true, false, not, cond, _&&_, _||_}
+use mathlib.Core.Bool.{Bool, false, cond, _||_}
 use mathlib.Core.Option.{Option, none, some}
 use mathlib.Core.List.{List, [], _∷_, _++_}
 use lib.ListN.{getD, set, replicate}
@@ -32,6 +32,7 @@ pub record Counting : Type 0 where
   pub number : ℕ
 
 -- "It holds a set A, for each seat a set taken and a set given back, and a commit under count: none, or a seat and a number."
+-- A is `allocated`
 pub record Ledger : Type 0 where
   pub allocated : List ℕ
   pub slots : List Sets

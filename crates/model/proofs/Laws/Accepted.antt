@@ -1,0 +1,233 @@
+-- What the acceptance of a call tells, by name: for each call the causes of its list that don't hold. Below `cN` is what is
+-- left of the list from cause N on.
+use Prim.Native.Nat.{ℕ, _≤_, _<_}
+use mathlib.Core.Path.{_≡_, refl, ap}
+use mathlib.Core.Bool.{Bool, true, false, not, _&&_, false≢true}
+use mathlib.Core.Option.{none}
+use mathlib.Core.List.{List}
+use lib.ListN.{length}
+use lib.Dec.{leb, eqb}
+use borrow.Author.Tests.{leb-true, leb-false, ltb-false, eqb-true, eq-eqb, not-false}
+use Rattle.bitmap.specs.Sizes.{slotCount, maxCount}
+use Rattle.model.specs.Types.{Pending, Nothing, Commit, Recovery, Memory}
+use Rattle.model.specs.Sizes.{diskWords}
+use Rattle.model.specs.Memory.{slotAt, isActive, isPrecommitted, samBit, comBit}
+use Rattle.model.specs.Valid.{valid, blocksInRange}
+use Rattle.model.specs.Disk.{diskMatches}
+use Rattle.model.specs.Causes.{memoryInvalid, diskLengthWrong, diskMismatched, blocksOutOfRange, isNothing, nothingPending, workPending, slotOutOfRange, slotActive, slotInactive, slotPrecommitted, slotNotPrecommitted, countOutOfRange, listShort, available, tooFewAvailable, blockOutOfRange, blockFree, blockFreeing}
+use Rattle.model.specs.Calls.Format.{formatError}
+use Rattle.model.specs.Calls.Start.{startError}
+use Rattle.model.specs.Calls.Allocate.{allocateError}
+use Rattle.model.specs.Calls.Deallocate.{deallocateError}
+use Rattle.model.specs.Calls.Precommit.{precommitError}
+use Rattle.model.specs.Calls.Committing.{commitError}
+use Rattle.model.specs.Calls.Rollback.{rollbackError}
+use Rattle.model.specs.Calls.Storing.{storeError}
+use Rattle.model.proofs.Laws.First.{first-none, none-first}
+use Rattle.model.proofs.Laws.Writes.{and-first, and-second}
+
+-- ---- single causes
+
+-- 1
+pub is-valid : (memory : Memory) → memoryInvalid memory ≡ false → valid memory ≡ true
+unfolding memoryInvalid
+is-valid memory e = not-false (valid memory) e
+
+-- 8
+is-nothing : (pending : Pending) → isNothing pending ≡ true → pending ≡ Nothing
+unfolding isNothing
+is-nothing Nothing e = refl
+is-nothing (Commit s done due) e = cc
+is-nothing (Recovery done due) e = cc
+
+nothing-pending : (memory : Memory) → workPending memory ≡ false → memory .pending ≡ Nothing
+unfolding workPending nothingPending
+nothing-pending memory e = is-nothing (memory .pending) (not-false (isNothing (memory .pending)) e)
+
+-- 10
+slot-below : (s : ℕ) → slotOutOfRange s ≡ false → s < slotCount
+unfolding slotOutOfRange
+slot-below s e = leb-false slotCount s e
+
+-- 12
+slot-active : (memory : Memory) (s : ℕ) → slotInactive memory s ≡ false → isActive (slotAt memory s .state) ≡ true
+unfolding slotInactive slotActive
+slot-active memory s e = not-false (isActive (slotAt memory s .state)) e
+
+-- 2
+disk-length : (disk : List ℕ) → diskLengthWrong disk ≡ false → length disk ≡ diskWords
+unfolding diskLengthWrong
+disk-length disk e = eqb-true (length disk) diskWords (not-false (eqb (length disk) diskWords) e)
+
+-- 19 and 20: SAM 1, and not SAM 1 and COM 0
+both-set : (sam «com» : Bool) → sam ≡ true → (sam && not «com») ≡ false → «com» ≡ true
+both-set true «com» s e = not-false «com» e
+both-set false «com» s e = absurd (false≢true s)
+
+-- ---- the six transaction calls
+
+-- 1, 8 and 10: the memory is valid, nothing is pending, and the slot is there
+pub record Ready (memory : Memory) (s : ℕ) : Type 0 where
+  pub is-valid : valid memory ≡ true
+  pub nothing-pending : memory .pending ≡ Nothing
+  pub below : s < slotCount
+
+pub ready-of : (memory : Memory) (s : ℕ) → memoryInvalid memory ≡ false → workPending memory ≡ false → slotOutOfRange s ≡ false → Ready memory s
+ready-of memory s c1 c8 c10 =
+    record { is-valid = is-valid memory c1; nothing-pending = nothing-pending memory c8; below = slot-below s c10 }
+
+module _ (memory : Memory) (s : ℕ) where
+  pub record StartAccepted : Type 0 where
+    pub ready : Ready memory s
+    pub idle : isActive (slotAt memory s .state) ≡ false
+
+  pub start-accepted : startError memory s ≡ none → StartAccepted
+  unfolding startError slotActive
+  start-accepted e =
+      let c1 = first-none _ e in
+      let c8 = c1 .1 in
+      let c10 = c8 .1 in
+      let c11 = c10 .1 in
+      record { ready = ready-of memory s (c1 .0) (c8 .0) (c10 .0); idle = c11 .0 }
+
+  pub record AllocateAccepted (count : ℕ) (list : List ℕ) : Type 0 where
+    pub ready : Ready memory s
+    pub active : isActive (slotAt memory s .state) ≡ true
+    pub not-precommitted : isPrecommitted (slotAt memory s .state) ≡ false
+    pub some : 1 ≤ count
+    pub few : count ≤ maxCount
+    pub room : count ≤ length list
+    pub enough : count ≤ length (available memory)
+
+  pub allocate-accepted : (count : ℕ) (list : List ℕ) → allocateError memory s count list ≡ none → AllocateAccepted count list
+  unfolding allocateError slotPrecommitted countOutOfRange listShort tooFewAvailable
+  allocate-accepted count list e =
+      let c1 = first-none _ e in
+      let c8 = c1 .1 in
+      let c10 = c8 .1 in
+      let c12 = c10 .1 in
+      let c13 = c12 .1 in
+      let c15 = c13 .1 in
+      let c16 = c15 .1 in
+      let c17 = c16 .1 in
+      let in-range : (leb 1 count && leb count maxCount) ≡ true = not-false (leb 1 count && leb count maxCount) (c15 .0) in
+      record {
+        ready = ready-of memory s (c1 .0) (c8 .0) (c10 .0);
+        active = slot-active memory s (c12 .0);
+        not-precommitted = c13 .0;
+        some = leb-true 1 count (and-first (leb 1 count) (leb count maxCount) in-range);
+        few = leb-true count maxCount (and-second (leb 1 count) (leb count maxCount) in-range);
+        room = ltb-false (length list) count (c16 .0);
+        enough = ltb-false (length (available memory)) count (c17 .0);
+      }
+
+  pub record DeallocateAccepted (block : ℕ) : Type 0 where
+    pub ready : Ready memory s
+    pub active : isActive (slotAt memory s .state) ≡ true
+    pub not-precommitted : isPrecommitted (slotAt memory s .state) ≡ false
+    pub block-below : block < memory .blocks
+    pub allocated : samBit memory block ≡ true
+    pub unfreed : comBit memory block ≡ true
+
+  pub deallocate-accepted : (block : ℕ) → deallocateError memory s block ≡ none → DeallocateAccepted block
+  unfolding deallocateError slotPrecommitted blockOutOfRange blockFree blockFreeing
+  deallocate-accepted block e =
+      let c1 = first-none _ e in
+      let c8 = c1 .1 in
+      let c10 = c8 .1 in
+      let c12 = c10 .1 in
+      let c13 = c12 .1 in
+      let c18 = c13 .1 in
+      let c19 = c18 .1 in
+      let c20 = c19 .1 in
+      let allocated : samBit memory block ≡ true = not-false (samBit memory block) (c19 .0) in
+      record {
+        ready = ready-of memory s (c1 .0) (c8 .0) (c10 .0);
+        active = slot-active memory s (c12 .0);
+        not-precommitted = c13 .0;
+        block-below = leb-false (memory .blocks) block (c18 .0);
+        allocated = allocated;
+        unfreed = both-set (samBit memory block) (comBit memory block) allocated (c20 .0);
+      }
+
+  pub record PrecommitAccepted : Type 0 where
+    pub ready : Ready memory s
+    pub active : isActive (slotAt memory s .state) ≡ true
+    pub not-precommitted : isPrecommitted (slotAt memory s .state) ≡ false
+
+  pub precommit-accepted : precommitError memory s ≡ none → PrecommitAccepted
+  unfolding precommitError slotPrecommitted
+  precommit-accepted e =
+      let c1 = first-none _ e in
+      let c8 = c1 .1 in
+      let c10 = c8 .1 in
+      let c12 = c10 .1 in
+      let c13 = c12 .1 in
+      record { ready = ready-of memory s (c1 .0) (c8 .0) (c10 .0); active = slot-active memory s (c12 .0); not-precommitted = c13 .0 }
+
+  pub record CommitAccepted : Type 0 where
+    pub ready : Ready memory s
+    pub active : isActive (slotAt memory s .state) ≡ true
+    pub precommitted : isPrecommitted (slotAt memory s .state) ≡ true
+
+  pub commit-accepted : commitError memory s ≡ none → CommitAccepted
+  unfolding commitError slotNotPrecommitted slotPrecommitted
+  commit-accepted e =
+      let c1 = first-none _ e in
+      let c8 = c1 .1 in
+      let c10 = c8 .1 in
+      let c12 = c10 .1 in
+      let c14 = c12 .1 in
+      record {
+        ready = ready-of memory s (c1 .0) (c8 .0) (c10 .0);
+        active = slot-active memory s (c12 .0);
+        precommitted = not-false (isPrecommitted (slotAt memory s .state)) (c14 .0);
+      }
+
+  pub record RollbackAccepted : Type 0 where
+    pub ready : Ready memory s
+    pub active : isActive (slotAt memory s .state) ≡ true
+
+  pub rollback-accepted : rollbackError memory s ≡ none → RollbackAccepted
+  unfolding rollbackError
+  rollback-accepted e =
+      let c1 = first-none _ e in
+      let c8 = c1 .1 in
+      let c10 = c8 .1 in
+      let c12 = c10 .1 in
+      record { ready = ready-of memory s (c1 .0) (c8 .0) (c10 .0); active = slot-active memory s (c12 .0) }
+
+-- ---- store
+
+module _ (memory : Memory) (disk : List ℕ) where
+  pub record StoreAccepted : Type 0 where
+    pub is-valid : valid memory ≡ true
+    pub size : length disk ≡ diskWords
+    pub matches : diskMatches memory disk (memory .pending) ≡ true
+    pub pending : isNothing (memory .pending) ≡ false
+
+  pub store-accepted : storeError memory disk ≡ none → StoreAccepted
+  unfolding storeError diskMismatched nothingPending
+  store-accepted e =
+      let c1 = first-none _ e in
+      let c2 = c1 .1 in
+      let c6 = c2 .1 in
+      let c9 = c6 .1 in
+      record {
+        is-valid = is-valid memory (c1 .0);
+        size = disk-length disk (c2 .0);
+        matches = not-false (diskMatches memory disk (memory .pending)) (c6 .0);
+        pending = c9 .0;
+      }
+
+  pub accepted-store : StoreAccepted → storeError memory disk ≡ none
+  unfolding storeError memoryInvalid diskLengthWrong diskMismatched nothingPending
+  accepted-store a =
+      none-first _
+      (ap not (a .is-valid), (ap not (eq-eqb (length disk) diskWords (a .size)), (ap not (a .matches), (a .pending, tt))))
+
+-- ---- format
+
+pub accepted-format : (disk : List ℕ) (blocks : ℕ) → length disk ≡ diskWords → blocksInRange blocks ≡ true → formatError disk blocks ≡ none
+unfolding formatError diskLengthWrong blocksOutOfRange
+accepted-format disk blocks size range = none-first _ (ap not (eq-eqb (length disk) diskWords size), (ap not range, tt))
