@@ -1,38 +1,37 @@
--- Allocate keeps the invariant: the blocks given had no holder, since SAM and COM were 0 there.
+-- Allocate keeps the invariant, and so does any grant of available blocks: they had no holder, since SAM and COM were 0 there.
 use Prim.Native.Nat.{ℕ, _+_, _≤_, _<_}
-use native.Mathlib.Omega.{arith}
-use mathlib.Core.Path.{_≡_, refl, sym, ap, _∙_, subst}
-use mathlib.Core.Bool.{Bool, true, false, not, _&&_, _||_, xor, cond}
-use mathlib.Core.Option.{Option}
-use mathlib.Core.List.{List, _++_}
-use lib.ListN.{length, getD, take, drop}
-use borrow.Author.Tests.{leb-false, not-false}
-use Rattle.bitmap.specs.Blocks.{member}
-use Rattle.model.specs.declared.memory.Memory.{Memory}
-use Rattle.model.specs.declared.memory.Slot.{Slot}
-use Rattle.model.specs.Memory.{slotAt, slotOf, isActive, samBit, comBit, tamBit, volumeBitmap}
-use Rattle.model.specs.Ledger.{Sets, setsOf, withSets, holders, entered, takes}
-use Rattle.model.specs.Causes.{slotOutOfRange, slotActive, slotInactive}
-use Rattle.model.specs.World.{World, step, allocateCall}
-use Rattle.model.proofs.Laws.DiskParts.{first-none}
-use Rattle.model.proofs.Laws.Valid.{ValidParts, valid-parts, slot-below, touches-at, touches-one, touchesBlock}
-use Rattle.model.proofs.Laws.Taking.{Given, given}
-use Rattle.crash_safety.proofs.Bools.{or-true, or-false}
-use Rattle.crash_safety.proofs.Invariant.{Tied, Invariant}
-use Rattle.crash_safety.proofs.Refused.{call-keeps, is-valid, is-nothing, grant-number}
-use Rattle.crash_safety.proofs.Touching.{touching, holders-set, plain-of, active-taken, active-freed, volume-bit}
 use native.Mathlib.Nat.{not-le-of-lt}
-use lib.ListN.{length-take}
+use native.Mathlib.Omega.{arith}
+use mathlib.Core.Path.{_≡_, refl, sym, ap, ap₂, _∙_, subst}
+use mathlib.Core.Bool.{Bool, true, false, not, _&&_, _||_, xor, cond, false≢true, or-true, or-false}
+use mathlib.Core.Option.{Option, none}
+use mathlib.Core.List.{List, _++_}
+use lib.ListN.{length, getD, take, drop, length-take}
 use lib.Seq.{take-at}
-use borrow.Author.Tests.{ltb-false}
+use Rattle.bitmap.specs.Blocks.{member}
 use Rattle.bitmap.proofs.Laws.Bits.{noBits-bit}
 use Rattle.bitmap.proofs.Laws.Blocks.{member-append}
-use Rattle.model.specs.Memory.{touched}
+use Rattle.model.specs.declared.error.Error.{Error}
+use Rattle.model.specs.declared.memory.Memory.{Memory}
+use Rattle.model.specs.declared.memory.Slot.{Slot}
 use Rattle.model.specs.Errors.{unlessRefused}
-use Rattle.model.specs.Causes.{available, tooFewAvailable}
+use Rattle.model.specs.Memory.{slotAt, withTam, isActive, samBit, comBit, tamBit, touched, volumeBitmap}
+use Rattle.model.specs.Causes.{available}
 use Rattle.model.specs.Valid.{touches}
 use Rattle.model.specs.Calls.Allocate.{allocateError, lowest, taking, allocateMemory, allocateAnswer, allocateList}
+use Rattle.model.specs.Outcome.{outcome, allocateCall}
+use Rattle.model.proofs.Laws.Numbers.{grant-number}
+use Rattle.model.proofs.Laws.Accepted.{Ready, allocate-accepted}
+use Rattle.model.proofs.Laws.Valid.{ValidParts, valid-parts, slot-below, touches-at, touches-one, touchesBlock}
+use Rattle.model.proofs.Laws.Taking.{Available, AllAvailable, lowest-available}
+use Rattle.crash_safety.specs.Ledger.{Sets, Ledger, setsOf, withSets, holders, entered, takes}
+use Rattle.crash_safety.specs.World.{World, worldOf, event, made, step}
 use Rattle.crash_safety.proofs.Holders.{one, one-le, takers-none}
+use Rattle.crash_safety.proofs.Invariant.{Tied, Plain, Invariant}
+use Rattle.crash_safety.proofs.Refused.{memory-keeps}
+use Rattle.crash_safety.proofs.Touching.{plain, sets-there, touching, holders-set, active-taken, active-freed, volume-bit}
+
+-- ---- the slot's sets
 
 module _ (sam : ℕ → Bool) (slot new : Slot) (sets : Sets) (blocks : List ℕ)
     (active : isActive (slot .state) ≡ true)
@@ -45,14 +44,14 @@ module _ (sam : ℕ → Bool) (slot new : Slot) (sets : Sets) (blocks : List ℕ
 
   takes-them : (b : ℕ) (t : Bool) → member b blocks ≡ t → (member b (sets .taken) || t) ≡ ((t || tamBit slot b) && not (sam b))
   takes-them b true e = or-true (member b (sets .taken)) ∙ sym (ap not (free b e))
-  takes-them b false e = or-false (member b (sets .taken)) ∙ active-taken sam slot sets b tie active
+  takes-them b false e = or-false (member b (sets .taken)) ∙ active-taken sam slot sets tie active b
 
   frees-none : (b : ℕ) (t : Bool) → member b blocks ≡ t → member b (sets .freed) ≡ (sam b && not (t || tamBit slot b))
   frees-none b true e =
-      active-freed sam slot sets b tie active
+      active-freed sam slot sets tie active b
       ∙ ap (λ (t : Bool). t && not (tamBit slot b)) (free b e)
       ∙ sym (ap (λ (t : Bool). t && false) (free b e))
-  frees-none b false e = active-freed sam slot sets b tie active
+  frees-none b false e = active-freed sam slot sets tie active b
 
   taken-tie : Tied sam new (record { taken = sets .taken ++ blocks; freed = sets .freed })
   taken-tie =
@@ -66,111 +65,127 @@ module _ (sam : ℕ → Bool) (slot new : Slot) (sets : Sets) (blocks : List ℕ
             ∙ sym (ap (λ (t : Bool). t && (sam b && not (tamBit new b))) still ∙ ap (λ (t : Bool). sam b && not t) (set-there b));
       }
 
--- no slot has taken a block with SAM 0 and COM 0
-untaken : (w : World) (b : ℕ) → Invariant w → ValidParts (w .memory) → ((t : ℕ) → Tied (samBit (w .memory)) (slotAt (w .memory) t) (setsOf (w .ledger) t)) → Given (w .memory) b → (t : ℕ) → member b (setsOf (w .ledger) t .taken) ≡ false
-unfolding touched xor
-untaken w b i parts ties g t = go (member b (setsOf (w .ledger) t .taken)) refl
-  where
-    slot : Slot
-    slot = slotAt (w .memory) t
+-- ---- holders
 
-    -- taken there, the slot is counted as having touched the block
-    counted : member b (setsOf (w .ledger) t .taken) ≡ true → touchesBlock (w .memory) slot b ≡ true
-    counted e =
-        ap (λ (u : Bool). isActive (slot .state) && not (mathlib.Core.Bool.Bool·beq (tamBit slot b) u)) (g .free)
-        ∙ as-taken (isActive (slot .state)) (tamBit slot b)
-        ∙ sym (ap (λ (u : Bool). isActive (slot .state) && (tamBit slot b && not u)) (g .free))
-        ∙ sym (ties t .taken b)
-        ∙ e
-      where
-        as-taken : (a u : Bool) → (a && not (mathlib.Core.Bool.Bool·beq u false)) ≡ (a && (u && true))
-        as-taken true true = refl
-        as-taken true false = refl
-        as-taken false u = refl
+-- what a slot has touched where SAM is 0 it has taken
+taken-touched : (active tam sam : Bool) → sam ≡ false → (active && xor tam sam) ≡ (active && (tam && not sam))
+unfolding xor
+taken-touched active true true e = refl
+taken-touched active true false e = refl
+taken-touched active false true e = absurd (false≢true (sym e))
+taken-touched active false false e = refl
 
-    none-there : touches (w .memory) b (w .memory .slots) ≡ 0
-    none-there =
-        touches-at (w .memory) b (parts .touches-agree) (g .below)
-        ∙ ap (λ (u : Bool). cond (not (mathlib.Core.Bool.Bool·beq u (comBit (w .memory) b))) 1 0) (g .free)
-        ∙ ap (λ (u : Bool). cond (not (mathlib.Core.Bool.Bool·beq false u)) 1 0) (g .unused)
+module _ (memory : Memory) (ledger : Ledger) (b : ℕ) (parts : ValidParts memory) (tied : Plain memory ledger none) (g : Available memory b) where
+  -- no slot has touched a block with SAM 0 and COM 0
+  none-there : touches memory b (memory .slots) ≡ 0
+  unfolding xor
+  none-there =
+      touches-at memory b (parts .touches-agree) (g .below)
+      ∙ ap₂ (λ (x y : Bool). cond (xor x y) 1 0) (g .free) (g .unused)
 
-    go : (u : Bool) → member b (setsOf (w .ledger) t .taken) ≡ u → member b (setsOf (w .ledger) t .taken) ≡ false
-    go true e = absurd (not-le-of-lt (touches-one (w .memory) b (w .memory .slots) t (counted e)) (omega (arith, none-there)))
-    go false e = e
+  -- so none has taken it
+  untaken : (t : ℕ) → member b (setsOf ledger t .taken) ≡ false
+  unfolding touched
+  untaken t = go (member b (setsOf ledger t .taken)) refl
+    where
+      slot : Slot
+      slot = slotAt memory t
+
+      counted : member b (setsOf ledger t .taken) ≡ true → touchesBlock memory slot b ≡ true
+      counted e = taken-touched (isActive (slot .state)) (tamBit slot b) (samBit memory b) (g .free) ∙ sym (tied .slots t .taken b) ∙ e
+
+      go : (u : Bool) → member b (setsOf ledger t .taken) ≡ u → member b (setsOf ledger t .taken) ≡ false
+      go true e = absurd (not-le-of-lt (touches-one memory b (memory .slots) t (counted e)) (omega (arith, none-there)))
+      go false e = e
+
+  -- an available block has no holder
+  pub unheld : holders ledger b ≡ 0
+  unfolding holders
+  unheld =
+      let free : one (member b (ledger .allocated)) ≡ 0 = ap one (sym (tied .finds b) ∙ g .free) in
+      omega (arith, free, takers-none b (ledger .slots) untaken)
 
 -- so the slot becomes its only holder
-one-taker : (w : World) (s b : ℕ) (blocks : List ℕ)
-    → s < length (w .ledger .slots)
-    → Invariant w
-    → (member b blocks ≡ true → holders (w .ledger) b ≡ 0)
-    → holders (withSets (w .ledger) s (record { taken = setsOf (w .ledger) s .taken ++ blocks; freed = setsOf (w .ledger) s .freed })) b ≤ 1
-one-taker w s b blocks h i none-held = go (member b blocks) refl
+one-taker : (ledger : Ledger) (s b : ℕ) (blocks : List ℕ)
+    → s < length (ledger .slots)
+    → holders ledger b ≤ 1
+    → (member b blocks ≡ true → holders ledger b ≡ 0)
+    → holders (takes ledger s blocks) b ≤ 1
+unfolding takes
+one-taker ledger s b blocks h k none-held = go (member b blocks) refl
   where
+    before : Bool
+    before = member b (setsOf ledger s .taken)
+
     own : Sets
-    own = record { taken = setsOf (w .ledger) s .taken ++ blocks; freed = setsOf (w .ledger) s .freed }
+    own = record { taken = setsOf ledger s .taken ++ blocks; freed = setsOf ledger s .freed }
 
-    change : holders (withSets (w .ledger) s own) b + one (member b (setsOf (w .ledger) s .taken)) ≡ holders (w .ledger) b + one (member b (setsOf (w .ledger) s .taken) || member b blocks)
-    change = holders-set (w .ledger) s b own h ∙ ap (λ (t : Bool). holders (w .ledger) b + one t) (member-append b (setsOf (w .ledger) s .taken) blocks)
+    change : holders (withSets ledger s own) b + one before ≡ holders ledger b + one (before || member b blocks)
+    change = holders-set ledger s b own h ∙ ap (λ (t : Bool). holders ledger b + one t) (member-append b (setsOf ledger s .taken) blocks)
 
-    go : (t : Bool) → member b blocks ≡ t → holders (withSets (w .ledger) s own) b ≤ 1
-    go true e = omega (arith, change, none-held e, one-le (member b (setsOf (w .ledger) s .taken) || member b blocks))
-    go false e =
-        let same : (member b (setsOf (w .ledger) s .taken) || member b blocks) ≡ member b (setsOf (w .ledger) s .taken) =
-        ap (λ (t : Bool). member b (setsOf (w .ledger) s .taken) || t) e ∙ or-false (member b (setsOf (w .ledger) s .taken)) in
-        omega (arith, change, ap one same, i .one-holder b)
+    go : (t : Bool) → member b blocks ≡ t → holders (withSets ledger s own) b ≤ 1
+    go true e = omega (arith, change, none-held e, one-le (before || member b blocks))
+    go false e = omega (arith, change, ap one (ap (λ (t : Bool). before || t) e ∙ or-false before), k)
 
--- a given block had no holder
-pub unheld : (w : World) (b : ℕ) → Invariant w → ValidParts (w .memory)
-    → ((x : ℕ) → samBit (w .memory) x ≡ member x (w .ledger .allocated))
-    → ((t : ℕ) → Tied (samBit (w .memory)) (slotAt (w .memory) t) (setsOf (w .ledger) t))
-    → Given (w .memory) b
-    → holders (w .ledger) b ≡ 0
-unfolding holders
-unheld w b i parts finds ties g =
-    let free : one (member b (w .ledger .allocated)) ≡ 0 = ap one (sym (finds b) ∙ g .free) in
-    omega (arith, free, takers-none b (w .ledger .slots) (untaken w b i parts ties g))
+-- ---- a grant
 
-none-from : (memory : Memory) (s count : ℕ) → ValidParts memory → (b : ℕ) → memory .blocks ≤ b → (member b (lowest memory count) || tamBit (slotAt memory s) b) ≡ false
-none-from memory s count parts b h = go (member b (lowest memory count)) refl
+none-from : (memory : Memory) (s : ℕ) (blocks : List ℕ) → AllAvailable memory blocks → ValidParts memory
+    → (b : ℕ)
+    → memory .blocks ≤ b
+    → (member b blocks || tamBit (slotAt memory s) b) ≡ false
+none-from memory s blocks all parts b h = go (member b blocks) refl
   where
-    go : (t : Bool) → member b (lowest memory count) ≡ t → (t || tamBit (slotAt memory s) b) ≡ false
-    go true e = absurd (not-le-of-lt (given memory count b e .below) h)
+    go : (t : Bool) → member b blocks ≡ t → (t || tamBit (slotAt memory s) b) ≡ false
+    go true e = absurd (not-le-of-lt (all b e .below) h)
     go false e = noBits-bit (memory .blocks) (slotAt memory s .tam .words) b (slot-below memory s parts) h
 
+pub grant-keeps : (w : World) (s : ℕ) (blocks : List ℕ)
+    → Invariant w
+    → Ready (w .memory) s
+    → isActive (slotAt (w .memory) s .state) ≡ true
+    → AllAvailable (w .memory) blocks
+    → Invariant (worldOf (taking (w .memory) s blocks) (w .disk) (takes (w .ledger) s blocks))
+unfolding taking takes
+grant-keeps w s blocks i ready active all =
+    touching w s i ready new (volumeBitmap (w .memory) (λ b. member b blocks || comBit (w .memory) b))
+    (record { taken = setsOf (w .ledger) s .taken ++ blocks; freed = setsOf (w .ledger) s .freed })
+    (taken-tie (samBit (w .memory)) slot new (setsOf (w .ledger) s) blocks active refl
+    (volume-bit (w .memory .blocks) (λ b. member b blocks || tamBit slot b) (parts .few-blocks) (none-from (w .memory) s blocks all parts))
+    (λ b m. all b m .free)
+    (tied .slots s))
+    (λ b. one-taker (w .ledger) s b blocks (sets-there w s i ready) (i .one-holder b) (λ m. unheld (w .memory) (w .ledger) b parts tied (all b m)))
+  where
+    parts : ValidParts (w .memory)
+    parts = valid-parts (w .memory) (ready .is-valid)
+
+    tied : Plain (w .memory) (w .ledger) none
+    tied = plain w s i ready
+
+    slot : Slot
+    slot = slotAt (w .memory) s
+
+    new : Slot
+    new = withTam slot (volumeBitmap (w .memory) (λ b. member b blocks || tamBit slot b))
+
+-- ---- allocate
+
 -- the numbers listed are the blocks given
-pub listed : (memory : Memory) (count : ℕ) (list : List ℕ) → tooFewAvailable memory count ≡ false → take count (lowest memory count ++ drop count list) ≡ lowest memory count
-unfolding lowest tooFewAvailable
-listed memory count list e =
-    take-at (take count (available memory)) (drop count list) count
-    (omega (arith, length-take count (available memory), ltb-false (length (available memory)) count e))
+pub listed : (memory : Memory) (s count : ℕ) (list : List ℕ) → allocateError memory s count list ≡ none
+    → take count (allocateList memory s count list) ≡ lowest memory count
+unfolding allocateList unlessRefused lowest
+listed memory s count list e =
+    ap (λ (x : Option Error). take count (unlessRefused x (lowest memory count ++ drop count list) list)) e
+    ∙ take-at (take count (available memory)) (drop count list) count
+    (omega (arith, length-take count (available memory), allocate-accepted memory s count list e .enough))
 
 pub allocate-keeps : (w : World) (s count : ℕ) (list : List ℕ) → Invariant w → Invariant (step (allocateCall s count list) w)
-unfolding step allocateMemory allocateAnswer allocateList entered takes taking allocateError slotOutOfRange slotInactive slotActive unlessRefused
+unfolding step made event outcome entered allocateMemory allocateAnswer
 allocate-keeps w s count list i =
-    call-keeps w (allocateError (w .memory) s count list) (taking (w .memory) s (lowest (w .memory) count)) _
+    memory-keeps w (allocateError (w .memory) s count list) (taking (w .memory) s (lowest (w .memory) count)) _
     (grant-number (allocateError (w .memory) s count list) (getD (lowest (w .memory) count) 0 0)) i
     (λ e.
-    let n = first-none _ e in
-    let v = is-valid (w .memory) (n .0) in
-    let nothing = is-nothing (w .memory) (n .1 .0) in
-    let parts = valid-parts (w .memory) v in
-    let below : s < 8 = leb-false 8 s (n .1 .1 .0) in
-    let slot : Slot = slotAt (w .memory) s in
-    let blocks : List ℕ = lowest (w .memory) count in
-    let new : Slot = slotOf (slot .state) (volumeBitmap (w .memory) (λ b. member b blocks || tamBit slot b)) in
-    let own : Sets = record { taken = setsOf (w .ledger) s .taken ++ blocks; freed = setsOf (w .ledger) s .freed } in
-    let plain = plain-of (w .memory) (w .ledger) (w .memory .pending) nothing (i .related v .pending) in
-    let all-listed : take count (unlessRefused (allocateError (w .memory) s count list) (blocks ++ drop count list) list) ≡ blocks =
-    ap (λ (x : Option Rattle.model.specs.declared.error.Error.Error). take count (unlessRefused x (blocks ++ drop count list) list)) e
-    ∙ listed (w .memory) count list (n .1 .1 .1 .1 .1 .1 .1 .0) in
+    let a = allocate-accepted (w .memory) s count list e in
     subst
-    (λ (l : List ℕ). Invariant (Rattle.model.specs.World.worldOf (taking (w .memory) s blocks) (w .disk) (takes (w .ledger) s l)))
-    (sym all-listed)
-    (touching w s new (volumeBitmap (w .memory) (λ b. member b blocks || comBit (w .memory) b)) own i v nothing below
-    (taken-tie (samBit (w .memory)) slot new (setsOf (w .ledger) s) blocks
-    (not-false (isActive (slot .state)) (n .1 .1 .1 .0))
-    refl
-    (volume-bit (w .memory .blocks) (λ b. member b blocks || tamBit slot b) (parts .few-blocks) (none-from (w .memory) s count parts))
-    (λ b m. given (w .memory) count b m .free)
-    (plain .0 .slots s))
-    (λ b. one-taker w s b blocks (omega (arith, i .slots)) i (λ m. unheld w b i parts (plain .0 .finds) (plain .0 .slots) (given (w .memory) count b m)))))
+    (λ (l : List ℕ). Invariant (worldOf (taking (w .memory) s (lowest (w .memory) count)) (w .disk) (takes (w .ledger) s l)))
+    (sym (listed (w .memory) s count list e))
+    (grant-keeps w s (lowest (w .memory) count) i (a .ready) (a .active) (lowest-available (w .memory) count)))

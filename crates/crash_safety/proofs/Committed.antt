@@ -9,6 +9,7 @@ use mathlib.Core.List.{List, map}
 use lib.ListN.{length, getD, set, length-set, length-map}
 use lib.Seq.{getD-set-same}
 use Rattle.bitmap.specs.declared.Bitmap.{Bitmap}
+use Rattle.bitmap.specs.Sizes.{slotCount}
 use Rattle.bitmap.specs.Bits.{bit}
 use Rattle.bitmap.specs.Blocks.{member}
 use Rattle.bitmap.proofs.Laws.Bits.{bit-from}
@@ -16,7 +17,7 @@ use Rattle.model.specs.declared.memory.Memory.{Memory}
 use Rattle.model.specs.declared.memory.Slot.{Slot}
 use Rattle.model.specs.Memory.{slotAt, idleSlot, isActive, samBit, tamBit}
 use Rattle.model.specs.Commit.{committedSam, refreshed, committed}
-use Rattle.model.specs.Ledger.{Sets, Ledger, setsOf}
+use Rattle.crash_safety.specs.Ledger.{Sets, Ledger, setsOf}
 use Rattle.model.proofs.Laws.Valid.{ValidParts}
 use Rattle.model.proofs.Laws.Commit.{committed-bits, refreshed-bits, others-kept}
 use Rattle.model.proofs.Laws.Committed.{committed-bitmap, refreshed-at, refreshed-state, refreshed-idle}
@@ -73,8 +74,8 @@ module _ (memory : Memory) (ledger : Ledger) (s : ℕ) (parts : ValidParts memor
                 ∙ sym (ap (λ (u : Bool). u && (newBit b && not (tamBit after b))) idle);
           }
 
-  pub committed-related : length (memory .slots) ≡ 8
-      → s < 8
+  pub committed-related : length (memory .slots) ≡ slotCount
+      → s < slotCount
       → ((b : ℕ) → bit (committedSam memory s .words) b ≡ member b (ledger .allocated))
       → ((t : ℕ) → (t ≡ s → ⊥) → Tied (samBit memory) (slotAt memory t) (setsOf ledger t))
       → ((b : ℕ) → member b (setsOf ledger s .taken) ≡ false)
@@ -86,7 +87,7 @@ module _ (memory : Memory) (ledger : Ledger) (s : ℕ) (parts : ValidParts memor
       record {
         sam = committed-bitmap memory s;
         slots = length-set (map (refreshed memory new) (memory .slots)) s idleSlot ∙ length-map (memory .slots) (refreshed memory new) ∙ eight;
-        pending = (record { finds = finds; slots = λ t. tied t (ℕ-discrete t s) }, uncounted);
+        pending = record { finds = finds; slots = λ t. tied t (ℕ-discrete t s); counted = uncounted };
       }
     where
       slots : List Slot

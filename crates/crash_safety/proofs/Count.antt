@@ -1,21 +1,21 @@
 -- The ledger's d is the memory's: its two sets have blocks in just the bitmap words that the commit changes.
-use Prim.Native.Nat.{ℕ, zero, suc, _+_, _*_, _/_, _%_, _^_, _≤_, _<_}
-use native.Mathlib.Numerals.{add-one}
+use Prim.Native.Nat.{ℕ, zero, suc, _+_, _*_, _/_, _%_, _^_, _<_}
 use native.Mathlib.Omega.{arith}
-use mathlib.Core.Path.{_≡_, refl, sym, ap, ap₂, _∙_, subst}
-use mathlib.Core.Bool.{Bool, true, false, not, cond, xor, _||_, false≢true}
+use mathlib.Core.Path.{_≡_, refl, sym, ap, ap₂, _∙_}
+use mathlib.Core.Bool.{Bool, true, false, not, cond, xor, _||_, false≢true, or-true}
 use mathlib.Core.List.{List, [], _∷_}
 use lib.ListN.{length, getD, drop, drop-of-length-le}
 use lib.Seq.{drop-cons}
 use lib.Dec.{eqb}
 use borrow.Author.Tests.{eqb-true, eq-eqb, ne-eqb}
-use Rattle.bitmap.specs.Bits.{bit, isSet, IsBitmap}
+use Rattle.bitmap.specs.Sizes.{wordBits, bitmapWords}
+use Rattle.bitmap.specs.Bits.{bit, isSet}
 use Rattle.bitmap.specs.Blocks.{member}
 use Rattle.bitmap.proofs.Laws.Bits.{word-of-bits}
 use Rattle.model.proofs.Laws.Commit.{same-or-not}
-use Rattle.crash_safety.proofs.Bools.{or-true, xor-same}
+use Rattle.model.proofs.Laws.Touches.{xor-self}
 use Rattle.model.specs.Stores.{changesFrom, changes}
-use Rattle.model.specs.Ledger.{hasWord, wordsFrom}
+use Rattle.crash_safety.specs.Ledger.{hasWord, wordsFrom}
 
 -- a block in the list, by its word
 member-hasWord : (b : ℕ) (blocks : List ℕ) → member b blocks ≡ true → hasWord (b / 32) blocks ≡ true
@@ -43,9 +43,17 @@ hasWord-member k (x ∷ blocks) e = go (eqb (x / 32) k) refl e (hasWord-member k
         (found .0, ap (λ (t : Bool). eqb (found .0) x || t) (found .1) ∙ or-true (eqb (found .0) x), found .2)
 
 module _ (sam new blocks : List ℕ)
-    (small-sam : (k : ℕ) → getD sam k 0 < 2 ^ 32)
-    (small-new : (k : ℕ) → getD new k 0 < 2 ^ 32)
+    (small-sam : (k : ℕ) → getD sam k 0 < 2 ^ wordBits)
+    (small-new : (k : ℕ) → getD new k 0 < 2 ^ wordBits)
     (changed : (b : ℕ) → member b blocks ≡ xor (bit sam b) (bit new b)) where
+  -- the bits of a word that stays
+  same-bit : (b k : ℕ) → b / 32 ≡ k → getD sam k 0 ≡ getD new k 0 → bit sam b ≡ bit new b
+  unfolding bit
+  same-bit b k q same =
+      ap (λ (n : ℕ). isSet (getD sam n 0) (b % 32)) q
+      ∙ ap (λ (w : ℕ). isSet w (b % 32)) same
+      ∙ sym (ap (λ (n : ℕ). isSet (getD new n 0) (b % 32)) q)
+
   -- the list has a block in a word just where the word changes
   word-changes : (k : ℕ) → hasWord k blocks ≡ not (eqb (getD sam k 0) (getD new k 0))
   unfolding bit
@@ -57,11 +65,7 @@ module _ (sam new blocks : List ℕ)
           let differs : xor (bit sam (found .0)) (bit new (found .0)) ≡ true = sym (changed (found .0)) ∙ found .1 in
           e ∙ sym (ap not (ne-eqb (getD sam k 0) (getD new k 0) (λ same.
           false≢true
-          (sym (xor-same (bit sam (found .0)) (bit new (found .0))
-          (ap (λ (n : ℕ). isSet (getD sam n 0) (found .0 % 32)) (found .2)
-          ∙ ap (λ (w : ℕ). isSet w (found .0 % 32)) same
-          ∙ sym (ap (λ (n : ℕ). isSet (getD new n 0) (found .0 % 32)) (found .2))))
-          ∙ differs))))
+          (sym (ap (xor (bit sam (found .0))) (sym (same-bit (found .0) k (found .2) same)) ∙ xor-self (bit sam (found .0))) ∙ differs))))
       go false e =
           e ∙ sym (ap not (eq-eqb (getD sam k 0) (getD new k 0) (word-of-bits sam new k (small-sam k) (small-new k) (λ i h. same i h))))
         where
@@ -90,5 +94,5 @@ module _ (sam new blocks : List ℕ)
       step true e = omega arith
       step false e = omega arith
 
-  pub words-changed : length sam ≡ 128 → length new ≡ 128 → wordsFrom 0 128 blocks ≡ length (changes sam new)
-  words-changed l m = count-from 128 0 (omega arith) (omega arith)
+  pub words-changed : length sam ≡ bitmapWords → length new ≡ bitmapWords → wordsFrom 0 bitmapWords blocks ≡ length (changes sam new)
+  words-changed l m = count-from bitmapWords 0 (omega arith) (omega arith)

@@ -1,29 +1,35 @@
--- A crash keeps the invariant, and so does an open: it finds what the disk stands for.
+-- A crash keeps the invariant, and so does an open: it finds what the disk stands for. A status call alters nothing.
 use Prim.Native.Nat.{ℕ, zero, suc, _≤_}
 use native.Mathlib.Omega.{arith}
 use mathlib.Core.Path.{_≡_, refl, sym, ap, _∙_, subst}
-use mathlib.Core.Bool.{Bool, false}
-use mathlib.Core.Option.{Option, none, some}
+use mathlib.Core.Bool.{Bool, true, false, cond, false≢true}
+use mathlib.Core.Option.{Option, none}
 use mathlib.Core.List.{List}
 use lib.ListN.{getD, replicate}
+use lib.Dec.{eqb}
+use Rattle.bitmap.specs.Sizes.{slotCount}
 use Rattle.bitmap.specs.Bits.{bit}
 use Rattle.bitmap.specs.Blocks.{member}
 use Rattle.model.specs.declared.error.Error.{Error}
 use Rattle.model.specs.declared.memory.Memory.{Memory}
+use Rattle.model.specs.declared.memory.Slot.{Slot}
 use Rattle.model.specs.declared.memory.Pending.{Pending}
 use Rattle.model.specs.Memory.{zeroMemory, idleSlot, quietMemory, bitmap}
 use Rattle.model.specs.Errors.{unlessRefused}
-use Rattle.model.specs.Answers.{due, storesNumber, counted, statusNumber}
+use Rattle.model.specs.Answers.{storesNumber}
 use Rattle.model.specs.Valid.{valid, blocksInRange}
 use Rattle.model.specs.Disk.{diskBlocks, logLength, durable}
-use Rattle.model.specs.Ledger.{Sets, noSets, Ledger, emptied, entered, enter, holders, opening, crashing, asking}
-use Rattle.model.specs.Calls.Opening.{recoveryDue, recoveryPending, opened, openAnswer, openMemory}
-use Rattle.model.specs.Calls.Status.{statusError, statusAnswer, counts}
-use Rattle.model.specs.World.{World, worldOf, event, crashed, step, openCall, statusCall, crashCall}
-use Rattle.model.proofs.Laws.RecoveryLog.{durable-length}
+use Rattle.model.specs.Calls.Opening.{openError, recoveryDue, recoveryPending, opened, openAnswer, openMemory}
+use Rattle.model.specs.Calls.Status.{statusAnswer}
+use Rattle.model.specs.Answers.{statusNumber}
+use Rattle.model.specs.Outcome.{outcome, openCall, statusCall, crashCall}
+use Rattle.model.proofs.Laws.Numbers.{numberOf, stores-number}
+use Rattle.model.proofs.Laws.Durable.{durable-length}
+use Rattle.crash_safety.specs.Ledger.{Sets, noSets, Ledger, emptied, entered, enter, holders}
+use Rattle.crash_safety.specs.World.{World, worldOf, event, made, step}
 use Rattle.crash_safety.proofs.Holders.{one-le, takers-crashed}
 use Rattle.crash_safety.proofs.Invariant.{Tied, Plain, PendingTied, Invariant}
-use Rattle.crash_safety.proofs.Refused.{enter-accepted, enter-refused, stores-number, numberOf}
+use Rattle.crash_safety.proofs.Refused.{enter-accepted}
 use Rattle.crash_safety.proofs.Small.{durable-small}
 
 -- the memory of zeros isn't valid
@@ -37,41 +43,39 @@ alike zero t a = refl
 alike (suc n) zero a = refl
 alike (suc n) (suc t) a = alike n t a
 
-pub crash-enters : (ledger : Ledger) → enter (event crashing 0 0 0) ledger ≡ emptied ledger
-unfolding entered
-crash-enters ledger = enter-accepted (event crashing 0 0 0) ledger refl
-
 emptied-holders : (ledger : Ledger) (b : ℕ) → holders (emptied ledger) b ≤ 1
 unfolding holders emptied
-emptied-holders ledger b = omega (arith, one-le (member b (ledger .allocated)), takers-crashed b 8)
+emptied-holders ledger b = omega (arith, one-le (member b (ledger .allocated)), takers-crashed b slotCount)
 
-crash-keeps' : (w : World) → Invariant w → Invariant (worldOf zeroMemory (w .disk) (emptied (w .ledger)))
-unfolding emptied
-crash-keeps' w i =
+-- ---- a crash
+
+pub crash-keeps : (w : World) → Invariant w → Invariant (step crashCall w)
+unfolding step made event outcome enter entered emptied
+crash-keeps w i =
     record {
       small = i .small;
       opens = i .opens;
       kept = i .kept;
       one-holder = emptied-holders (w .ledger);
       slots = refl;
-      related = λ v. absurd (mathlib.Core.Bool.false≢true (sym zero-invalid ∙ v));
+      related = λ v. absurd (false≢true (sym zero-invalid ∙ v));
     }
 
-pub crash-keeps : (w : World) → Invariant w → Invariant (step crashCall w)
-unfolding step crashed
-crash-keeps w i = subst (λ (l : Ledger). Invariant (worldOf zeroMemory (w .disk) l)) (sym (crash-enters (w .ledger))) (crash-keeps' w i)
+-- ---- an open
 
 -- a memory just opened is related to the ledger after a crash
 idle-plain : (disk : List ℕ) (pending : Pending) (ledger : Ledger)
     → ((b : ℕ) → bit (durable disk) b ≡ member b (ledger .allocated))
-    → Plain (quietMemory (diskBlocks disk) (bitmap (durable disk)) pending) (emptied ledger)
+    → Plain (quietMemory (diskBlocks disk) (bitmap (durable disk)) pending) (emptied ledger) none
 unfolding emptied member
 idle-plain disk pending ledger kept =
     record {
       finds = kept;
       slots = λ t.
-          subst (λ (sets : Sets). Tied (bit (durable disk)) (getD (replicate 8 idleSlot) t idleSlot) sets) (sym (alike 8 t noSets))
-          (subst (λ (slot : Rattle.model.specs.declared.memory.Slot.Slot). Tied (bit (durable disk)) slot noSets) (sym (alike 8 t idleSlot)) (record { taken = λ b. refl; freed = λ b. refl }));
+          subst (λ (sets : Sets). Tied (bit (durable disk)) (getD (replicate slotCount idleSlot) t idleSlot) sets) (sym (alike slotCount t noSets))
+          (subst (λ (slot : Slot). Tied (bit (durable disk)) slot noSets) (sym (alike slotCount t idleSlot))
+          (record { taken = λ b. refl; freed = λ b. refl }));
+      counted = refl;
     }
 
 opened-keeps : (w : World) → Invariant w → Invariant (worldOf (opened (w .disk)) (w .disk) (emptied (w .ledger)))
@@ -90,37 +94,44 @@ opened-keeps w i =
       };
     }
   where
-    by-log : (p : ℕ) → PendingTied (quietMemory (diskBlocks (w .disk)) (bitmap (durable (w .disk))) (recoveryPending (logLength (w .disk)))) (emptied (w .ledger)) (recoveryPending p)
-    by-log zero = (idle-plain (w .disk) (recoveryPending (logLength (w .disk))) (w .ledger) (i .kept), refl)
-    by-log (suc p) = (idle-plain (w .disk) (recoveryPending (logLength (w .disk))) (w .ledger) (i .kept), refl)
+    memory : Memory
+    memory = quietMemory (diskBlocks (w .disk)) (bitmap (durable (w .disk))) (recoveryPending (logLength (w .disk)))
 
-twice : (ledger : Ledger) (n : ℕ) → enter (event opening 0 0 (storesNumber (due none n))) (enter (event crashing 0 0 0) ledger) ≡ emptied ledger
-unfolding entered emptied
-twice ledger n =
-    enter-accepted (event opening 0 0 (storesNumber (due none n))) (enter (event crashing 0 0 0) ledger) (stores-number none n)
-    ∙ ap emptied (crash-enters ledger)
+    by-log : (p : ℕ) → PendingTied memory (emptied (w .ledger)) (recoveryPending p)
+    by-log zero = idle-plain (w .disk) (recoveryPending (logLength (w .disk))) (w .ledger) (i .kept)
+    by-log (suc p) = idle-plain (w .disk) (recoveryPending (logLength (w .disk))) (w .ledger) (i .kept)
+
+-- an open that isn't refused
+pub open-memory : (disk : List ℕ) → openError disk ≡ none → openMemory disk ≡ opened disk
+unfolding openMemory unlessRefused
+open-memory disk e = ap (λ (x : Option Error). unlessRefused x (opened disk) zeroMemory) e
+
+open-number : (disk : List ℕ) → openError disk ≡ none → storesNumber (openAnswer disk) ≡ 0
+unfolding openAnswer
+open-number disk e = stores-number (openError disk) (recoveryDue (logLength disk)) ∙ ap numberOf e
+
+made-open-keeps : (w : World) → Invariant w → Invariant (made openCall w)
+unfolding made event outcome entered
+made-open-keeps w i =
+    subst (λ (m : Memory). Invariant (worldOf m (w .disk) ledger)) (sym (open-memory (w .disk) (i .opens)))
+    (subst (λ (l : Ledger). Invariant (worldOf (opened (w .disk)) (w .disk) l))
+    (sym (enter-accepted _ (w .ledger) (open-number (w .disk) (i .opens))))
+    (opened-keeps w i))
+  where
+    ledger : Ledger
+    ledger = enter (event openCall (outcome openCall (w .memory) (w .disk))) (w .ledger)
 
 pub open-keeps : (w : World) → Invariant w → Invariant (step openCall w)
-unfolding step openMemory openAnswer crashed unlessRefused
-open-keeps w i =
-    subst
-    (λ (e : Option Error). Invariant (worldOf (unlessRefused e (opened (w .disk)) zeroMemory) (w .disk) (enter (event opening 0 0 (storesNumber (due e (recoveryDue (logLength (w .disk)))))) (enter (event crashing 0 0 0) (w .ledger)))))
-    (sym (i .opens))
-    (subst (λ (l : Ledger). Invariant (worldOf (opened (w .disk)) (w .disk) l)) (sym entering) (opened-keeps w i))
-  where
-    entering : enter (event opening 0 0 (storesNumber (due none (recoveryDue (logLength (w .disk)))))) (enter (event crashing 0 0 0) (w .ledger)) ≡ emptied (w .ledger)
-    entering = twice (w .ledger) (recoveryDue (logLength (w .disk)))
+unfolding step
+open-keeps w i = made-open-keeps (made crashCall w) (crash-keeps w i)
 
--- status alters nothing
-number : (w : Memory) (e : Option Error) → statusNumber (counted e (counts w)) ≡ numberOf e
-unfolding counted
-number w none = refl
-number w (some error) = refl
+-- ---- status
+
+either-way : (t : Bool) (ledger : Ledger) → cond t ledger ledger ≡ ledger
+either-way true ledger = refl
+either-way false ledger = refl
 
 pub status-keeps : (w : World) → Invariant w → Invariant (step statusCall w)
-unfolding step statusAnswer entered
-status-keeps w i = go (statusError (w .memory))
-  where
-    go : (e : Option Error) → Invariant (worldOf (w .memory) (w .disk) (enter (event asking 0 0 (statusNumber (counted e (counts (w .memory))))) (w .ledger)))
-    go none = subst (λ (l : Ledger). Invariant (worldOf (w .memory) (w .disk) l)) (sym (enter-accepted (event asking 0 0 (statusNumber (counted none (counts (w .memory))))) (w .ledger) (number (w .memory) none))) i
-    go (some error) = subst (λ (l : Ledger). Invariant (worldOf (w .memory) (w .disk) l)) (sym (enter-refused (event asking 0 0 (statusNumber (counted (some error) (counts (w .memory))))) (w .ledger) error (number (w .memory) (some error)))) i
+unfolding step made event outcome enter entered
+status-keeps w i =
+    subst (λ (l : Ledger). Invariant (worldOf (w .memory) (w .disk) l)) (sym (either-way (eqb (statusNumber (statusAnswer (w .memory))) 0) (w .ledger))) i

@@ -3,15 +3,13 @@ use Prim.Native.Nat.{ℕ, zero, suc, _+_, _≤_, _<_}
 use native.Mathlib.Nat.{not-suc-le-zero, le-of-suc-le-suc}
 use native.Mathlib.Omega.{arith}
 use mathlib.Core.Path.{_≡_, refl, sym, ap, _∙_}
-use mathlib.Core.Bool.{Bool, true, false, not, cond, _&&_, _||_, false≢true, true≢false}
-use mathlib.Core.List.{List, [], _∷_, _++_}
+use mathlib.Core.Bool.{Bool, true, false, not, cond, _&&_, _||_, and-false}
+use mathlib.Core.List.{List, [], _∷_}
 use lib.ListN.{length, getD, set, replicate}
 use lib.Dec.{eqb}
 use borrow.Author.Tests.{eqb-true}
 use Rattle.bitmap.specs.Blocks.{member}
-use Rattle.bitmap.proofs.Laws.Blocks.{member-append}
-use Rattle.crash_safety.proofs.Bools.{and-false}
-use Rattle.model.specs.Ledger.{Sets, noSets, Ledger, ledgerOf, setsOf, without, takers, holders}
+use Rattle.crash_safety.specs.Ledger.{Sets, noSets, without, takers, holders}
 pub use Rattle.model.proofs.Laws.Touches.{one}
 
 pub one-le : (t : Bool) → one t ≤ 1

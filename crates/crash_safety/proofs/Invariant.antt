@@ -1,10 +1,11 @@
 -- What holds after every list of calls.
-use Prim.Native.Nat.{ℕ, zero, suc, _+_, _*_, _^_, _≤_, _<_}
+use Prim.Native.Nat.{ℕ, _*_, _^_, _≤_, _<_}
 use mathlib.Core.Path.{_≡_}
-use mathlib.Core.Bool.{Bool, true, false, not, _&&_}
+use mathlib.Core.Bool.{Bool, true, not, _&&_}
 use mathlib.Core.Option.{Option, none, some}
 use mathlib.Core.List.{List}
 use lib.ListN.{length, getD}
+use Rattle.bitmap.specs.Sizes.{wordBits, slotCount}
 use Rattle.bitmap.specs.Bits.{bit, IsBitmap}
 use Rattle.bitmap.specs.Blocks.{member}
 use Rattle.model.specs.declared.memory.Memory.{Memory}
@@ -16,44 +17,46 @@ use Rattle.model.specs.Commit.{committedSam, changedOf}
 use Rattle.model.specs.Valid.{valid}
 use Rattle.model.specs.Disk.{durable}
 use Rattle.model.specs.Calls.Opening.{openError}
-use Rattle.model.specs.Ledger.{Sets, noSets, Counting, Ledger, setsOf, holders}
-use Rattle.model.specs.World.{World}
+use Rattle.crash_safety.specs.Ledger.{Sets, noSets, Counting, Ledger, setsOf, holders}
+use Rattle.crash_safety.specs.World.{World}
 
 -- every word fits 32 bits
 abbrev pub Small : List ℕ → Type 0
-Small words = (k : ℕ) → getD words k 0 < 2 ^ 32
+Small words = (k : ℕ) → getD words k 0 < 2 ^ wordBits
 
 -- a slot's sets in the ledger: taken is what the active slot has touched where SAM is 0, freed what it has touched where SAM is 1
 pub record Tied (sam : ℕ → Bool) (slot : Slot) (sets : Sets) : Type 0 where
   pub taken : (b : ℕ) → member b (sets .taken) ≡ (isActive (slot .state) && (tamBit slot b && not (sam b)))
   pub freed : (b : ℕ) → member b (sets .freed) ≡ (isActive (slot .state) && (sam b && not (tamBit slot b)))
 
--- SAM is the allocated set, and every slot is tied to its sets
-pub record Plain (memory : Memory) (ledger : Ledger) : Type 0 where
+-- SAM is the allocated set, every slot is tied to its sets, and this commit is under count, or none
+pub record Plain (memory : Memory) (ledger : Ledger) (counting : Option Counting) : Type 0 where
   pub finds : (b : ℕ) → samBit memory b ≡ member b (ledger .allocated)
   pub slots : (t : ℕ) → Tied (samBit memory) (slotAt memory t) (setsOf ledger t)
+  pub counted : ledger .counting ≡ counting
 
 -- slot s is past its commit point: the allocated set is what SAM becomes, its own sets are empty
 pub record Past (memory : Memory) (ledger : Ledger) (s : ℕ) : Type 0 where
   pub finds : (b : ℕ) → bit (committedSam memory s .words) b ≡ member b (ledger .allocated)
   pub slots : (t : ℕ) → (t ≡ s → ⊥) → Tied (samBit memory) (slotAt memory t) (setsOf ledger t)
   pub own : setsOf ledger s ≡ noSets
+  pub uncounted : ledger .counting ≡ none
 
 abbrev pub countingOf : ℕ → ℕ → Option Counting
 countingOf s number = some (record { slot = s; number = number })
 
 -- by the pending work: a commit is under count, at its stores done, until its commit point, the store 2·d + 1
 abbrev pub PendingTied : Memory → Ledger → Pending → Type 0
-PendingTied memory ledger Nothing = Plain memory ledger × (ledger .counting ≡ none)
-PendingTied memory ledger (Recovery done due) = Plain memory ledger × (ledger .counting ≡ none)
+PendingTied memory ledger Nothing = Plain memory ledger none
+PendingTied memory ledger (Recovery done due) = Plain memory ledger none
 PendingTied memory ledger (Commit s done due) =
-    (done ≤ 2 * changedOf memory s → Plain memory ledger × (ledger .counting ≡ countingOf s done))
-    × (2 * changedOf memory s < done → Past memory ledger s × (ledger .counting ≡ none))
+    (done ≤ 2 * changedOf memory s → Plain memory ledger (countingOf s done))
+    × (2 * changedOf memory s < done → Past memory ledger s)
 
 -- a valid memory and the ledger
 pub record Related (memory : Memory) (ledger : Ledger) : Type 0 where
   pub sam : IsBitmap (memory .sam .words)
-  pub slots : length (memory .slots) ≡ 8
+  pub slots : length (memory .slots) ≡ slotCount
   pub pending : PendingTied memory ledger (memory .pending)
 
 -- the invariant. A memory that isn't valid, as that of zeros, is refused by every call but open, so nothing is asked of it
@@ -62,5 +65,5 @@ pub record Invariant (w : World) : Type 0 where
   pub opens : openError (w .disk) ≡ none
   pub kept : (b : ℕ) → bit (durable (w .disk)) b ≡ member b (w .ledger .allocated)
   pub one-holder : (b : ℕ) → holders (w .ledger) b ≤ 1
-  pub slots : length (w .ledger .slots) ≡ 8
+  pub slots : length (w .ledger .slots) ≡ slotCount
   pub related : valid (w .memory) ≡ true → Related (w .memory) (w .ledger)

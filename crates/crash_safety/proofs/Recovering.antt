@@ -1,12 +1,14 @@
 -- Calls of a recovery, and that the ledger's allocated set is the same after any number of them.
-use Prim.Native.Nat.{ℕ}
+use Prim.Native.Nat.{ℕ, zero, suc}
 use mathlib.Core.Path.{_≡_, refl, sym, subst}
 use mathlib.Core.Bool.{Bool, true, false, cond}
 use mathlib.Core.Option.{Option, none}
 use mathlib.Core.List.{List, [], _∷_}
+use lib.ListN.{replicate}
 use lib.Dec.{eqb}
-use Rattle.model.specs.Ledger.{Ledger, Kind, Counting, emptied, enter, entered, stores, crashing, opening, storing, asking}
-use Rattle.model.specs.World.{Call, World, event, crashed, step, run, openCall, startCall, allocateCall, deallocateCall, precommitCall, commitCall, rollbackCall, storeCall, statusCall, crashCall}
+use Rattle.model.specs.Outcome.{Call, outcome, openCall, startCall, allocateCall, deallocateCall, precommitCall, commitCall, rollbackCall, storeCall, statusCall, crashCall}
+use Rattle.crash_safety.specs.Ledger.{Ledger, Counting, emptied, enter, entered, stores}
+use Rattle.crash_safety.specs.World.{World, event, made, step, run}
 
 -- opens, stores, crashes and questions, in any order
 abbrev pub Recovers : Call → Type 0
@@ -25,29 +27,51 @@ abbrev pub Recovering : List Call → Type 0
 Recovering [] = Unit {0}
 Recovering (call ∷ calls) = Recovers call × Recovering calls
 
--- no commit is under count, and the allocated set is this one
-abbrev pub Settled : List ℕ → Ledger → Type 0
-Settled allocated ledger = (ledger .allocated ≡ allocated) × (ledger .counting ≡ none)
+pub stores-recover : (n : ℕ) → Recovering (replicate n storeCall)
+stores-recover zero = tt
+stores-recover (suc n) = (tt, stores-recover n)
 
-settled : (allocated : List ℕ) (kind : Kind) (answer : ℕ) (ledger : Ledger)
-    → (Settled allocated ledger → Settled allocated (entered kind 0 0 [] ledger))
-    → Settled allocated ledger
-    → Settled allocated (enter (event kind 0 0 answer) ledger)
-unfolding enter
-settled allocated kind answer ledger keeps s = go (eqb answer 0)
-  where
-    go : (t : Bool) → Settled allocated (cond t (entered kind 0 0 [] ledger) ledger)
-    go true = keeps s
-    go false = s
+-- no commit is under count, and the allocated set is this one
+pub record Settled (allocated : List ℕ) (ledger : Ledger) : Type 0 where
+  pub same : ledger .allocated ≡ allocated
+  pub uncounted : ledger .counting ≡ none
+
+module _ (allocated : List ℕ) (w : World) where
+  pub crash-settled : w .ledger .allocated ≡ allocated → Settled allocated (made crashCall w .ledger)
+  unfolding made event outcome enter entered emptied
+  crash-settled e = record { same = e; uncounted = refl }
+
+  module _ (s : Settled allocated (w .ledger)) where
+    open-settled : Settled allocated (made openCall w .ledger)
+    unfolding made event outcome enter entered emptied
+    open-settled = go (eqb (outcome openCall (w .memory) (w .disk) .number) 0)
+      where
+        go : (t : Bool) → Settled allocated (cond t (emptied (w .ledger)) (w .ledger))
+        go true = record { same = s .same; uncounted = refl }
+        go false = s
+
+    store-settled : Settled allocated (made storeCall w .ledger)
+    unfolding made event enter entered stores
+    store-settled = go (eqb (outcome storeCall (w .memory) (w .disk) .number) 0)
+      where
+        go : (t : Bool) → Settled allocated (cond t (stores (w .ledger) (w .ledger .counting)) (w .ledger))
+        go true = subst (λ (c : Option Counting). Settled allocated (stores (w .ledger) c)) (sym (s .uncounted)) s
+        go false = s
+
+    status-settled : Settled allocated (made statusCall w .ledger)
+    unfolding made event enter entered
+    status-settled = go (eqb (outcome statusCall (w .memory) (w .disk) .number) 0)
+      where
+        go : (t : Bool) → Settled allocated (cond t (w .ledger) (w .ledger))
+        go true = s
+        go false = s
 
 step-settled : (call : Call) (w : World) (allocated : List ℕ) → Recovers call → Settled allocated (w .ledger) → Settled allocated (step call w .ledger)
-unfolding step crashed entered emptied stores
-step-settled openCall w allocated r s =
-    settled allocated opening _ (enter (event crashing 0 0 0) (w .ledger)) (λ t. (t .0, refl)) (settled allocated crashing 0 (w .ledger) (λ t. (t .0, refl)) s)
-step-settled storeCall w allocated r s =
-    settled allocated storing _ (w .ledger) (λ t. subst (λ (c : Option Counting). Settled allocated (stores (w .ledger) c)) (sym (t .1)) t) s
-step-settled statusCall w allocated r s = settled allocated asking _ (w .ledger) (λ t. t) s
-step-settled crashCall w allocated r s = settled allocated crashing 0 (w .ledger) (λ t. (t .0, refl)) s
+unfolding step
+step-settled openCall w allocated r s = open-settled allocated (made crashCall w) (crash-settled allocated w (s .same))
+step-settled storeCall w allocated r s = store-settled allocated w s
+step-settled statusCall w allocated r s = status-settled allocated w s
+step-settled crashCall w allocated r s = crash-settled allocated w (s .same)
 step-settled (startCall s) w allocated r t = absurd r
 step-settled (allocateCall s count list) w allocated r t = absurd r
 step-settled (deallocateCall s block) w allocated r t = absurd r
@@ -55,7 +79,13 @@ step-settled (precommitCall s) w allocated r t = absurd r
 step-settled (commitCall s) w allocated r t = absurd r
 step-settled (rollbackCall s) w allocated r t = absurd r
 
-pub run-settled : (calls : List Call) (w : World) (allocated : List ℕ) → Recovering calls → Settled allocated (w .ledger) → Settled allocated (run calls w .ledger)
+pub run-settled : (calls : List Call) (w : World) (allocated : List ℕ) → Recovering calls → Settled allocated (w .ledger)
+    → Settled allocated (run calls w .ledger)
 unfolding run
 run-settled [] w allocated r s = s
 run-settled (call ∷ calls) w allocated r s = run-settled calls (step call w) allocated (r .1) (step-settled call w allocated (r .0) s)
+
+-- an open is a crash first, so it settles whatever was under count
+pub open-settles : (w : World) → Settled (w .ledger .allocated) (step openCall w .ledger)
+unfolding step
+open-settles w = open-settled (w .ledger .allocated) (made crashCall w) (crash-settled (w .ledger .allocated) w refl)

@@ -2,79 +2,77 @@
 use Prim.Native.Nat.{ℕ, _+_, _≤_, _<_}
 use native.Mathlib.Decide.{decLe}
 use native.Mathlib.Nat.{lt-of-not-le}
-use native.Mathlib.Omega.{arith}
 use mathlib.Core.Path.{_≡_, sym, ap, _∙_, subst}
 use mathlib.Core.Bool.{Bool, true, false, cond}
 use mathlib.Core.Option.{none}
 use mathlib.Core.List.{List}
 use lib.ListN.{length, take, drop}
 use lib.Dec.{eqb}
+use Rattle.bitmap.specs.Sizes.{slotCount}
 use Rattle.bitmap.specs.Bits.{bit, IsBitmap}
 use Rattle.bitmap.specs.Blocks.{member}
 use Rattle.model.specs.declared.memory.Pending.the-variants.{Nothing, Recovery}
 use Rattle.model.specs.Memory.{withPending}
-use Rattle.model.specs.Stores.{checkpointStores}
-use Rattle.model.specs.Disk.{logLength, logEntries, durable, recoveryMatches}
-use Rattle.model.specs.Ledger.{Ledger, stores}
+use Rattle.model.specs.Pending.{storesDone, storesDue, oneMoreDone, finished}
+use Rattle.model.specs.Stores.{Store, closingStores, checkpointWith}
+use Rattle.model.specs.Disk.{diskBitmap, logLength, logEntries, durable}
 use Rattle.model.specs.Calls.Opening.{openError}
 use Rattle.model.specs.Calls.Storing.{advanced}
-use Rattle.model.specs.World.{World, worldOf}
-use Rattle.model.proofs.Laws.Matching.{RecoveryMatches, matching-parts}
-use Rattle.model.proofs.Laws.RecoveryStep.{checkpointNext, checkpointed-opens, checkpointed-durable, cleared-opens, cleared-durable, all-rewritten}
+use Rattle.model.proofs.Laws.Matching.{RecoveryMatches}
+use Rattle.model.proofs.Laws.Closing.{closes}
+use Rattle.model.proofs.Laws.RecoveryLog.{checkpointNext, checkpointed-opens, checkpointed-durable, closing-opens, closing-durable, rewritten-durable}
+use Rattle.crash_safety.specs.Ledger.{Ledger, stores}
+use Rattle.crash_safety.specs.World.{World, worldOf}
 use Rattle.crash_safety.proofs.Invariant.{Plain, Related, Invariant}
-use Rattle.crash_safety.proofs.Small.{writes-small, take-small, drop-small, checkpoint-small, log-entries-small}
+use Rattle.crash_safety.proofs.Small.{writes-small, take-small, drop-small, checkpoint-small, closing-small, log-entries-small}
 
-pub recovery-store-keeps : (w : World) (k dueNow : ℕ)
-    → Invariant w
-    → IsBitmap (w .memory .sam .words)
-    → length (w .memory .slots) ≡ 8
-    → recoveryMatches (w .memory) (w .disk) k dueNow ≡ true
-    → k < dueNow
-    → Plain (w .memory) (w .ledger) × (w .ledger .counting ≡ none)
-    → Invariant (worldOf (advanced (w .memory) (Recovery k dueNow)) (checkpointNext (w .disk) k) (stores (w .ledger) (w .ledger .counting)))
-unfolding advanced stores
-recovery-store-keeps w k dueNow i sam eight e h plain =
-    subst
-    (λ (l : Ledger). Invariant (worldOf (cond (eqb (k + 1) dueNow) (withPending (w .memory) Nothing) (withPending (w .memory) (Recovery (k + 1) dueNow))) stored l))
-    (sym (ap (stores (w .ledger)) (plain .1)))
-    (go (decLe (logLength (w .disk)) k))
-  where
-    disk : List ℕ
-    disk = w .disk
+module _ (w : World) (k due : ℕ) (i : Invariant w)
+    (sam : IsBitmap (w .memory .sam .words))
+    (eight : length (w .memory .slots) ≡ slotCount)
+    (m : RecoveryMatches (w .memory) (w .disk) k due)
+    (plain : Plain (w .memory) (w .ledger) none) where
+  abbrev stored : List ℕ
+  stored = checkpointNext closingStores (w .disk) k
 
-    stored : List ℕ
-    stored = checkpointNext (w .disk) k
+  -- the logged words are written, or all are and the recovery is closed
+  opens-kept : (openError stored ≡ none) × ((b : ℕ) → bit (durable stored) b ≡ member b (w .ledger .allocated))
+  opens-kept = go (decLe (logLength (w .disk)) k)
+    where
+      go : Dec (logLength (w .disk) ≤ k) → (openError stored ≡ none) × ((b : ℕ) → bit (durable stored) b ≡ member b (w .ledger .allocated))
+      go (yes h) =
+          let stands : durable (w .disk) ≡ diskBitmap (w .disk) = rewritten-durable closingStores (w .disk) (i .opens) (w .memory) k due h m in
+          (
+            closing-opens closingStores (w .disk) (i .opens) k h closes,
+            λ b.
+            ap (λ (words : List ℕ). bit words b) (closing-durable closingStores (w .disk) (i .opens) k h closes stands ∙ sym stands) ∙ i .kept b,
+          )
+      go (no n) =
+          let h : k < logLength (w .disk) = lt-of-not-le n in
+          (
+            checkpointed-opens closingStores (w .disk) (i .opens) k h,
+            λ b. ap (λ (words : List ℕ). bit words b) (checkpointed-durable closingStores (w .disk) (i .opens) k h) ∙ i .kept b,
+          )
 
-    m : RecoveryMatches (w .memory) (w .disk) k dueNow
-    m = matching-parts (w .memory) (w .disk) k dueNow e
+  related : (t : Bool) → Related (cond t (withPending (w .memory) Nothing) (withPending (w .memory) (Recovery (k + 1) due))) (w .ledger)
+  related true = record { sam = sam; slots = eight; pending = record { finds = plain .finds; slots = plain .slots; counted = plain .counted } }
+  related false = record { sam = sam; slots = eight; pending = record { finds = plain .finds; slots = plain .slots; counted = plain .counted } }
 
-    related : (t : Bool) → Related (cond t (withPending (w .memory) Nothing) (withPending (w .memory) (Recovery (k + 1) dueNow))) (w .ledger)
-    related true = record { sam = sam; slots = eight; pending = (record { finds = plain .0 .finds; slots = plain .0 .slots }, plain .1) }
-    related false = record { sam = sam; slots = eight; pending = (record { finds = plain .0 .finds; slots = plain .0 .slots }, plain .1) }
-
-    keeps : openError stored ≡ none
-        → ((b : ℕ) → bit (durable stored) b ≡ member b (w .ledger .allocated))
-        → Invariant (worldOf (cond (eqb (k + 1) dueNow) (withPending (w .memory) Nothing) (withPending (w .memory) (Recovery (k + 1) dueNow))) stored (w .ledger))
-    keeps opens kept =
-        record {
-          small =
-              writes-small (take 1 (drop k (checkpointStores (logEntries disk)))) disk
-              (take-small 1 (drop k (checkpointStores (logEntries disk))) (drop-small k (checkpointStores (logEntries disk)) (checkpoint-small (logEntries disk) (log-entries-small disk (i .small)))))
-              (i .small);
-          opens = opens;
-          kept = kept;
-          one-holder = i .one-holder;
-          slots = i .slots;
-          related = λ _. related (eqb (k + 1) dueNow);
-        }
-
-    go : Dec (logLength (w .disk) ≤ k) → Invariant (worldOf (cond (eqb (k + 1) dueNow) (withPending (w .memory) Nothing) (withPending (w .memory) (Recovery (k + 1) dueNow))) stored (w .ledger))
-    go (yes g) =
-        let q : k ≡ logLength disk = omega (arith, m .due-is, h) in
-        let at-end = all-rewritten disk (i .opens) (w .memory) dueNow (subst (λ (n : ℕ). RecoveryMatches (w .memory) disk n dueNow) q m) in
-        keeps
-        (ap (λ (n : ℕ). openError (checkpointNext disk n)) q ∙ cleared-opens disk (i .opens))
-        (λ b. ap (λ (n : ℕ). bit (durable (checkpointNext disk n)) b) q ∙ ap (λ (x : List ℕ). bit x b) (cleared-durable disk (i .opens) ∙ at-end) ∙ plain .0 .finds b)
-    go (no n) =
-        let g : k < logLength disk = lt-of-not-le n in
-        keeps (checkpointed-opens disk (i .opens) k g) (λ b. ap (λ (x : List ℕ). bit x b) (checkpointed-durable disk (i .opens) k g) ∙ i .kept b)
+  pub recovery-store-keeps : Invariant (worldOf (advanced (w .memory) (Recovery k due)) stored (stores (w .ledger) (w .ledger .counting)))
+  unfolding advanced storesDone storesDue oneMoreDone finished stores
+  recovery-store-keeps =
+      subst (λ (l : Ledger). Invariant (worldOf (advanced (w .memory) (Recovery k due)) stored l)) (sym (ap (stores (w .ledger)) (plain .counted)))
+      (record {
+        small =
+            writes-small (take 1 (drop k recovery)) (w .disk)
+            (take-small 1 (drop k recovery)
+            (drop-small k recovery (checkpoint-small closingStores (logEntries (w .disk)) closing-small (log-entries-small (w .disk) (i .small)))))
+            (i .small);
+        opens = opens-kept .0;
+        kept = opens-kept .1;
+        one-holder = i .one-holder;
+        slots = i .slots;
+        related = λ _. related (eqb (k + 1) due);
+      })
+    where
+      recovery : List Store
+      recovery = checkpointWith closingStores (logEntries (w .disk))

@@ -1,122 +1,83 @@
--- Crash safety: every call keeps the invariant, the invariant holds at the beginning, and it is safe.
-use Prim.Native.Nat.{ℕ, zero, suc, _≤_}
+-- Crash safety: the invariant holds after every list of calls, and it is safe. An open puts memory and disk in order, so its
+-- stores are accepted to the last; they leave the ledger's allocated set, and then words 2 to 129 are what the disk stands for.
+use Prim.Native.Nat.{ℕ, zero, suc}
 use native.Mathlib.Omega.{arith}
-use mathlib.Core.Path.{_≡_, refl, sym, ap, _∙_, subst}
-use mathlib.Core.Bool.{Bool, not}
+use mathlib.Core.Path.{_≡_, refl, sym, ap, _∙_}
 use mathlib.Core.Option.{Option, none}
-use mathlib.Core.List.{List, [], _∷_}
-use lib.ListN.{length, replicate}
-use borrow.Author.Tests.{eq-eqb}
+use mathlib.Core.List.{List}
 use Rattle.bitmap.specs.Bits.{bit}
 use Rattle.bitmap.specs.Blocks.{member}
-use Rattle.bitmap.proofs.Laws.Bits.{bit-empty}
 use Rattle.model.specs.declared.error.Error.{Error}
+use Rattle.model.specs.declared.memory.Memory.{Memory}
 use Rattle.model.specs.Answers.{due, storesValue}
-use Rattle.model.specs.Errors.{unlessRefused}
-use Rattle.model.specs.Memory.{zeroMemory}
-use Rattle.model.specs.Stores.{writes}
-use Rattle.model.specs.Disk.{diskBitmap, logLength, entriesIn, entriesValid, durable}
-use Rattle.model.specs.Causes.{diskLengthWrong, blocksOutOfRange}
-use Rattle.model.specs.Ledger.{holders}
-use Rattle.model.specs.Calls.Format.{formatError, formatted, formatDisk}
-use Rattle.model.specs.Calls.Opening.{openError, recoveryDue, opened, openAnswer, openMemory}
-use Rattle.model.specs.World.{Call, World, begin, step, run, openCall, startCall, allocateCall, deallocateCall, precommitCall, commitCall, rollbackCall, storeCall, statusCall, crashCall}
-use Rattle.model.proofs.Laws.DiskParts.{none-first, blocks-inRange, diskOf-opens, diskOf-durable}
-use Rattle.model.proofs.Laws.Valid.{noBits-empty}
-use Rattle.crash_safety.specs.Statement.{Safe, StoresAccepted, afterStores, openDue, CrashSafe}
-use Rattle.crash_safety.proofs.Holders.{takers-crashed}
-use Rattle.crash_safety.proofs.Invariant.{Invariant, Small}
-use Rattle.crash_safety.proofs.Start.{start-keeps}
-use Rattle.crash_safety.proofs.Precommit.{precommit-keeps}
-use Rattle.crash_safety.proofs.Rollback.{rollback-keeps}
-use Rattle.crash_safety.proofs.Deallocate.{deallocate-keeps}
-use Rattle.crash_safety.proofs.Allocate.{allocate-keeps}
-use Rattle.crash_safety.proofs.Commit.{commit-keeps}
-use Rattle.crash_safety.proofs.Store.{store-keeps}
-use Rattle.crash_safety.proofs.Crash.{zero-invalid, crash-keeps, open-keeps, status-keeps}
-use Rattle.crash_safety.proofs.Recover.{recovered}
+use Rattle.model.specs.Pending.{storesDone, storesDue, storesLeft}
+use Rattle.model.specs.Disk.{diskBitmap, logLength, durable, diskMatches}
+use Rattle.model.specs.Calls.Format.{formatDisk}
+use Rattle.model.specs.Calls.Opening.{openError, recoveryDue, recoveryPending, opened, openAnswer, openMemory}
+use Rattle.model.specs.Completion.{State}
+use Rattle.model.specs.Outcome.{outcome, openCall}
+use Rattle.model.proofs.Laws.Matching.{quiet-durable}
+use Rattle.crash_safety.specs.World.{World, begin, made, step, run}
+use Rattle.crash_safety.specs.Statement.{Safe, openDue, CrashSafe}
+use Rattle.crash_safety.proofs.Invariant.{Invariant}
+use Rattle.crash_safety.proofs.Crash.{open-memory}
+use Rattle.crash_safety.proofs.Keeps.{step-keeps, run-keeps, begins-formatted}
+use Rattle.crash_safety.proofs.InOrder.Always.{open-uses}
+use Rattle.crash_safety.proofs.Completion.{stored, after-stored, Ended, ends, nothing-pending}
+use Rattle.crash_safety.proofs.Recovering.{stores-recover, Settled, run-settled, open-settles}
 
-pub step-keeps : (call : Call) (w : World) → Invariant w → Invariant (step call w)
-step-keeps openCall w i = open-keeps w i
-step-keeps (startCall s) w i = start-keeps w s i
-step-keeps (allocateCall s count list) w i = allocate-keeps w s count list i
-step-keeps (deallocateCall s block) w i = deallocate-keeps w s block i
-step-keeps (precommitCall s) w i = precommit-keeps w s i
-step-keeps (commitCall s) w i = commit-keeps w s i
-step-keeps (rollbackCall s) w i = rollback-keeps w s i
-step-keeps storeCall w i = store-keeps w i
-step-keeps statusCall w i = status-keeps w i
-step-keeps crashCall w i = crash-keeps w i
+-- the stores that an open answers are those that are left then
+recovery-left : (p : ℕ) → storesLeft (recoveryPending p) ≡ recoveryDue p
+unfolding storesLeft storesDone storesDue recoveryPending recoveryDue
+recovery-left zero = refl
+recovery-left (suc p) = omega arith
 
-pub run-keeps : (calls : List Call) (w : World) → Invariant w → Invariant (run calls w)
-unfolding run
-run-keeps [] w i = i
-run-keeps (call ∷ calls) w i = run-keeps calls (step call w) (step-keeps call w i)
+open-left : (disk : List ℕ) → openError disk ≡ none → storesLeft (openMemory disk .pending) ≡ openDue disk
+unfolding opened openAnswer due
+open-left disk e =
+    ap (λ (m : Memory). storesLeft (m .pending)) (open-memory disk e)
+    ∙ recovery-left (logLength disk)
+    ∙ sym (ap (λ (x : Option Error). storesValue (due x (recoveryDue (logLength disk)))) e)
 
--- ---- the beginning
+module _ (w : World) (i : Invariant w) where
+  -- the world just opened
+  abbrev opening : World
+  opening = step openCall w
 
-zeros-small : (n : ℕ) → Small (replicate n 0)
-zeros-small zero k = omega arith
-zeros-small (suc n) zero = omega arith
-zeros-small (suc n) (suc k) = zeros-small n k
+  -- its recovery made
+  abbrev n : ℕ
+  n = openDue (w .disk)
 
-formatted-small : (blocks : ℕ) → blocks ≤ 4096 → Small (formatted blocks)
-unfolding formatted
-formatted-small blocks few zero = omega arith
-formatted-small blocks few (suc k) = zeros-small 385 k
+  recovered : Ended n opening
+  unfolding step made outcome
+  recovered = ends n opening (step-keeps openCall w i) (open-uses w i) (open-left (w .disk) (i .opens))
 
-formatted-opens : (blocks : ℕ) → 1 ≤ blocks → blocks ≤ 4096 → openError (formatted blocks) ≡ none
-unfolding formatted entriesIn entriesValid
-formatted-opens blocks some-blocks few =
-    diskOf-opens blocks 0 (replicate 128 0) (replicate 256 0) refl refl some-blocks few (noBits-empty blocks) (omega arith) refl
+  -- words 2 to 129 are then what the disk stands for
+  bitmap-stands : durable (stored n opening .disk) ≡ diskBitmap (stored n opening .disk)
+  unfolding diskMatches
+  bitmap-stands =
+      quiet-durable (stored n opening .memory) (stored n opening .disk)
+      (recovered .invariant .related (recovered .in-use .is-valid) .sam .size)
+      (sym (ap (diskMatches (stored n opening .memory) (stored n opening .disk)) (nothing-pending n opening recovered)) ∙ recovered .in-use .matches)
 
-formatted-durable : (blocks : ℕ) → durable (formatted blocks) ≡ replicate 128 0
-unfolding formatted entriesIn writes
-formatted-durable blocks = diskOf-durable blocks 0 (replicate 128 0) (replicate 256 0) refl
+  -- and the allocated set is that of before
+  allocated-stays : Settled (w .ledger .allocated) (stored n opening .ledger)
+  allocated-stays = run-settled _ opening (w .ledger .allocated) (stores-recover n) (open-settles w)
 
-accepted-format : (disk : List ℕ) (blocks : ℕ) → length disk ≡ 386 → 1 ≤ blocks → blocks ≤ 4096 → formatDisk disk blocks ≡ formatted blocks
-unfolding formatDisk formatError diskLengthWrong blocksOutOfRange unlessRefused
-accepted-format disk blocks size some-blocks few =
-    ap (λ (e : Option Error). unlessRefused e (formatted blocks) disk)
-    (none-first _ (ap not (eq-eqb (length disk) 386 size), (ap not (blocks-inRange blocks some-blocks few), tt)))
-
-begins : (blocks : ℕ) → 1 ≤ blocks → blocks ≤ 4096 → Invariant (begin (formatted blocks))
-unfolding holders member
-begins blocks some-blocks few =
-    record {
-      small = formatted-small blocks few;
-      opens = formatted-opens blocks some-blocks few;
-      kept = λ b. ap (λ (words : List ℕ). bit words b) (formatted-durable blocks) ∙ bit-empty b;
-      one-holder = λ b. omega (arith, takers-crashed b 8);
-      slots = refl;
-      related = λ v. absurd (mathlib.Core.Bool.false≢true (sym zero-invalid ∙ v));
-    }
-
-pub begins-formatted : (blocks : ℕ) → 1 ≤ blocks → blocks ≤ 4096 → (disk : List ℕ) → length disk ≡ 386 → Invariant (begin (formatDisk disk blocks))
-begins-formatted blocks some-blocks few disk size =
-    subst (λ (d : List ℕ). Invariant (begin d)) (sym (accepted-format disk blocks size some-blocks few)) (begins blocks some-blocks few)
-
--- ---- what the invariant gives
-
-pub safe : (w : World) → Invariant w → Safe w
-unfolding openMemory openAnswer unlessRefused due opened
-safe w i =
-    record {
-      one-holder = i .one-holder;
-      opens = i .opens;
-      finds = λ b. ap (λ (m : Rattle.model.specs.declared.memory.Memory.Memory). bit (m .sam .words) b) memory-is ∙ i .kept b;
-      stores = mathlib.Core.Path.subst₂ (λ (n : ℕ) (m : Rattle.model.specs.declared.memory.Memory.Memory). StoresAccepted n m (w .disk)) (sym due-is) (sym memory-is) (recovered (w .disk) (i .opens) .accepted);
-      keeps = λ b.
-          ap (λ (words : List ℕ). bit words b)
-          (mathlib.Core.Path.subst₂ (λ (n : ℕ) (m : Rattle.model.specs.declared.memory.Memory.Memory). diskBitmap (afterStores n m (w .disk)) ≡ durable (w .disk)) (sym due-is) (sym memory-is) (recovered (w .disk) (i .opens) .ends))
-          ∙ i .kept b;
-    }
-  where
-    memory-is : openMemory (w .disk) ≡ opened (w .disk)
-    memory-is = ap (λ (e : Option Error). unlessRefused e (opened (w .disk)) zeroMemory) (i .opens)
-
-    due-is : openDue (w .disk) ≡ recoveryDue (logLength (w .disk))
-    due-is = ap (λ (e : Option Error). storesValue (due e (recoveryDue (logLength (w .disk))))) (i .opens)
+  pub safe : Safe w
+  unfolding step made outcome opened
+  safe =
+      record {
+        one-holder = i .one-holder;
+        opens = i .opens;
+        finds = λ b. ap (λ (m : Memory). bit (m .sam .words) b) (open-memory (w .disk) (i .opens)) ∙ i .kept b;
+        stores = recovered .accepted;
+        keeps = λ b.
+            ap (λ (s : State). bit (diskBitmap (s .disk)) b) (after-stored n opening)
+            ∙ ap (λ (words : List ℕ). bit words b) (sym bitmap-stands)
+            ∙ recovered .invariant .kept b
+            ∙ ap (member b) (allocated-stays .same);
+      }
 
 pub crash-safe : CrashSafe
 crash-safe blocks some-blocks few disk size calls =

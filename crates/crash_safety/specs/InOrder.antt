@@ -11,12 +11,16 @@ use mathlib.Core.List.{List, [], _∷_}
 use lib.ListN.{length}
 use Rattle.bitmap.specs.Sizes.{maxBlocks}
 use Rattle.model.specs.declared.memory.Memory.{Memory}
+use Rattle.model.specs.declared.memory.Pending.the-variants.{Nothing}
 use Rattle.model.specs.Sizes.{diskWords}
 use Rattle.model.specs.Memory.{zeroMemory}
 use Rattle.model.specs.Valid.{valid}
 use Rattle.model.specs.Disk.{diskMatches}
+use Rattle.model.specs.Pending.{storesLeft}
+use Rattle.model.specs.Completion.{StoresAccepted, completed}
 use Rattle.model.specs.Calls.Format.{formatDisk}
-use Rattle.model.specs.World.{Call, World, begin, step, run, openCall, crashCall}
+use Rattle.model.specs.Outcome.{Call, openCall, crashCall}
+use Rattle.crash_safety.specs.World.{World, begin, step, run}
 
 -- the memory is valid, and the disk is as it and its stores done leave it
 pub record Consistent (memory : Memory) (disk : List ℕ) : Type 0 where
@@ -59,3 +63,22 @@ InUseFromOpen =
     → (calls later : List Call)
     → NoCrash later
     → InUse (run later (step openCall (run calls (begin (formatDisk disk blocks)))))
+
+-- work that has begun can be brought to its end: each store still due is accepted, and then nothing is pending and memory and
+-- disk are consistent
+pub record Completes (memory : Memory) (disk : List ℕ) : Type 0 where
+  pub accepted : StoresAccepted (storesLeft (memory .pending)) memory disk
+  pub ended : completed memory disk .memory .pending ≡ Nothing
+  pub consistent : Consistent (completed memory disk .memory) (completed memory disk .disk)
+
+-- so in every world in use
+abbrev pub WorkCompletes : Type 0
+WorkCompletes =
+    (blocks : ℕ)
+    → 1 ≤ blocks
+    → blocks ≤ maxBlocks
+    → (disk : List ℕ)
+    → length disk ≡ diskWords
+    → (calls : List Call)
+    → InUse (run calls (begin (formatDisk disk blocks)))
+    → Completes (run calls (begin (formatDisk disk blocks)) .memory) (run calls (begin (formatDisk disk blocks)) .disk)

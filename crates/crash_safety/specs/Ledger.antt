@@ -55,8 +55,11 @@ emptied ledger = ledgerOf (ledger .allocated) (replicate slotCount noSets) none
 abbrev pub emptyLedger : Ledger
 emptyLedger = ledgerOf [] (replicate slotCount noSets) none
 
+abbrev pub withAllSets : Ledger → List Sets → Ledger
+withAllSets ledger slots = ledgerOf (ledger .allocated) slots (ledger .counting)
+
 abbrev pub withSets : Ledger → ℕ → Sets → Ledger
-withSets ledger s sets = ledgerOf (ledger .allocated) (set (ledger .slots) s sets) (ledger .counting)
+withSets ledger s sets = withAllSets ledger (set (ledger .slots) s sets)
 
 abbrev pub withCounting : Ledger → Option Counting → Ledger
 withCounting ledger counting = ledgerOf (ledger .allocated) (ledger .slots) counting

@@ -4,7 +4,7 @@
 -- with a list of any length and content, deallocate, precommit, commit, rollback, store, status or crash, with any slot,
 -- count and block numbers at all; refused calls are in it too. An open counts as a crash just before it. The ledger is fed
 -- each call's kind, slot and block, its answer and the numbers that an allocate lists, and sees no memory and no disk.
-use Prim.Native.Nat.{ℕ, zero, suc, _≤_}
+use Prim.Native.Nat.{ℕ, _≤_}
 use mathlib.Core.Path.{_≡_}
 use mathlib.Core.Option.{none}
 use mathlib.Core.List.{List}
@@ -12,25 +12,15 @@ use lib.ListN.{length}
 use Rattle.bitmap.specs.Sizes.{maxBlocks}
 use Rattle.bitmap.specs.Bits.{bit}
 use Rattle.bitmap.specs.Blocks.{member}
-use Rattle.model.specs.declared.memory.Memory.{Memory}
 use Rattle.model.specs.Sizes.{diskWords}
 use Rattle.model.specs.Disk.{diskBitmap}
 use Rattle.model.specs.Answers.{storesValue}
 use Rattle.model.specs.Calls.Format.{formatDisk}
 use Rattle.model.specs.Calls.Opening.{openError, openAnswer, openMemory}
-use Rattle.model.specs.Calls.Storing.{storeError, storeMemory, storeDisk}
-use Rattle.model.specs.Ledger.{holders}
-use Rattle.model.specs.World.{Call, World, begin, run}
-
--- n store calls, one after the other, each of them accepted
-abbrev pub StoresAccepted : ℕ → Memory → List ℕ → Type 0
-StoresAccepted zero memory disk = Unit {0}
-StoresAccepted (suc n) memory disk = (storeError memory disk ≡ none) × StoresAccepted n (storeMemory memory disk) (storeDisk memory disk)
-
--- the disk after n store calls
-abbrev pub afterStores : ℕ → Memory → List ℕ → List ℕ
-afterStores zero memory disk = disk
-afterStores (suc n) memory disk = afterStores n (storeMemory memory disk) (storeDisk memory disk)
+use Rattle.model.specs.Completion.{StoresAccepted, afterStores}
+use Rattle.crash_safety.specs.Ledger.{holders}
+use Rattle.model.specs.Outcome.{Call}
+use Rattle.crash_safety.specs.World.{World, begin, run}
 
 -- the stores due that an open answers
 abbrev pub openDue : List ℕ → ℕ
@@ -43,7 +33,7 @@ pub record Safe (w : World) : Type 0 where
   pub opens : openError (w .disk) ≡ none
   pub finds : (b : ℕ) → bit (openMemory (w .disk) .sam .words) b ≡ member b (w .ledger .allocated)
   pub stores : StoresAccepted (openDue (w .disk)) (openMemory (w .disk)) (w .disk)
-  pub keeps : (b : ℕ) → bit (diskBitmap (afterStores (openDue (w .disk)) (openMemory (w .disk)) (w .disk))) b ≡ member b (w .ledger .allocated)
+  pub keeps : (b : ℕ) → bit (diskBitmap (afterStores (openDue (w .disk)) (openMemory (w .disk)) (w .disk) .disk)) b ≡ member b (w .ledger .allocated)
 
 -- for every block count from 1 to 4,096, every disk that was formatted and every list of calls
 abbrev pub CrashSafe : Type 0

@@ -1,53 +1,57 @@
 -- A store of a commit: one more is done, or the commit ends, and the disk is as that leaves it.
-use Prim.Native.Nat.{ℕ, _+_, _*_, _<_}
+use Prim.Native.Nat.{ℕ, _+_, _<_}
 use native.Mathlib.Omega.{arith}
 use mathlib.Core.Path.{_≡_, refl, sym, ap, _∙_}
-use mathlib.Core.Bool.{Bool, true, false, cond, _&&_}
+use mathlib.Core.Bool.{Bool, true, false, cond}
 use mathlib.Core.List.{List}
 use lib.ListN.{length, take, drop}
-use lib.Dec.{leb, ltb, eqb}
-use borrow.Author.Tests.{eqb-true, eqb-false, lt-ltb}
+use lib.Dec.{eqb}
+use borrow.Author.Tests.{eqb-true, eqb-false}
+use Rattle.bitmap.specs.Sizes.{slotCount}
 use Rattle.bitmap.specs.Bits.{IsBitmap}
 use Rattle.model.specs.declared.memory.Memory.{Memory}
 use Rattle.model.specs.declared.memory.Pending.the-variants.{Commit}
-use Rattle.model.specs.Memory.{slotAt, isPrecommitted, withPending}
-use Rattle.model.specs.Sizes.{logAt}
+use Rattle.model.specs.Sizes.{diskWords, logAt}
+use Rattle.model.specs.Memory.{slotAt, withPending}
 use Rattle.model.specs.Stores.{writes, after, commitStores}
 use Rattle.model.specs.Commit.{committedSam, entriesOf, changedOf, committed}
+use Rattle.model.specs.Pending.{storesDone, storesDue, oneMoreDone, finished}
 use Rattle.model.specs.Valid.{sameWords, pendingValid}
 use Rattle.model.specs.Disk.{diskOf, baseImage, diskMatches}
 use Rattle.model.specs.Calls.Storing.{advanced}
-use Rattle.model.proofs.Laws.Writes.{and-both, and-first, length-writes, words-same}
+use Rattle.model.proofs.Laws.Writes.{length-writes, words-same}
 use Rattle.model.proofs.Laws.Valid.{ValidParts, parts-valid}
-use Rattle.model.proofs.Laws.Touches.{pending-valid}
 use Rattle.model.proofs.Laws.Committed.{committed-bitmap, committed-valid}
+use Rattle.model.proofs.Laws.Committing.{CommitParts, commit-parts, precommitted-active, precommitted-below, more-valid}
 use Rattle.model.proofs.Laws.CommitLog.{commit-end, commit-own-log, logged}
 use Rattle.model.proofs.Laws.Matching.{quiet-matches}
 use Rattle.crash_safety.specs.InOrder.{Consistent}
-use Rattle.crash_safety.proofs.CommitDisk.{CommitParts, commit-parts, diskAfter, from, written, next-disk}
+use Rattle.crash_safety.proofs.CommitDisk.{diskAfter, from, written, next-disk}
 
 module _ (memory : Memory) (disk : List ℕ) (s k due : ℕ) (parts : ValidParts memory) (sam : IsBitmap (memory .sam .words))
-    (size : length disk ≡ 386)
+    (size : length disk ≡ diskWords)
+    (eight : length (memory .slots) ≡ slotCount)
     (pending : pendingValid memory (Commit s k due) ≡ true)
     (matches : sameWords disk (after k (commitStores (entriesOf memory s)) (baseImage memory disk)) ≡ true) where
+  commit : CommitParts memory s k due
+  commit = commit-parts memory s k due pending
+
   abbrev stored : List ℕ
   stored = writes (take 1 (drop k (commitStores (entriesOf memory s)))) disk
 
   disk-is : stored ≡ diskAfter memory disk s (k + 1)
   disk-is = next-disk memory disk s parts sam size k matches
 
+  stored-size : length stored ≡ diskWords
+  stored-size = length-writes (take 1 (drop k (commitStores (entriesOf memory s)))) disk ∙ size
+
   -- more to come: the disk's own log words serve as well as those that the commit found
   more : k + 1 < due → Consistent (withPending memory (Commit s (k + 1) due)) stored
-  unfolding diskMatches pendingValid changedOf entriesOf committedSam
+  unfolding diskMatches storesDone storesDue oneMoreDone entriesOf committedSam
   more h =
       record {
-        is-valid =
-            parts-valid (withPending memory (Commit s (k + 1) due))
-            (pending-valid memory (Commit s (k + 1) due) parts
-            (and-both
-            (and-first (isPrecommitted (slotAt memory s .state) && leb 1 (changedOf memory s) && eqb due (3 * changedOf memory s + 2)) (ltb k due) pending)
-            (lt-ltb (k + 1) due h)));
-        size = length-writes (take 1 (drop k (commitStores (entriesOf memory s)))) disk ∙ size;
+        is-valid = parts-valid (withPending memory (Commit s (k + 1) due)) (more-valid memory (Commit s k due) parts pending h);
+        size = stored-size;
         matches =
             ap (sameWords stored)
             (ap (λ (d : List ℕ). diskAfter memory d s (k + 1)) disk-is
@@ -57,26 +61,30 @@ module _ (memory : Memory) (disk : List ℕ) (s k due : ℕ) (parts : ValidParts
       }
 
   -- the last store: SAM is on the disk, word 1 is 0
-  last : CommitParts memory s k due → s < length (memory .slots) → k + 1 ≡ due → Consistent (committed memory s) stored
+  last : k + 1 ≡ due → Consistent (committed memory s) stored
   unfolding diskMatches committed changedOf
-  last c h e =
+  last e =
       record {
-        is-valid = parts-valid (committed memory s) (committed-valid memory s parts h (c .active));
-        size = length-writes (take 1 (drop k (commitStores (entriesOf memory s)))) disk ∙ size;
+        is-valid =
+            parts-valid (committed memory s)
+            (committed-valid memory s parts
+            (omega (arith, precommitted-below memory s eight (commit .precommitted)))
+            (precommitted-active (slotAt memory s .state) (commit .precommitted)));
+        size = stored-size;
         matches =
-            quiet-matches stored (memory .blocks) (committedSam memory s .words) (logged (drop logAt disk) (entriesOf memory s)) (committed-bitmap memory s .size)
+            quiet-matches stored (memory .blocks) (committedSam memory s .words) (logged (drop logAt disk) (entriesOf memory s))
+            (committed-bitmap memory s .size)
             (disk-is
-            ∙ commit-end (memory .blocks) (memory .sam .words) (drop logAt disk) (entriesOf memory s) (from memory disk s parts sam size) (k + 1) (omega (arith, c .due-is, e))
-            ∙ ap (λ (words : List ℕ). diskOf (memory .blocks) 0 words (logged (drop logAt disk) (entriesOf memory s))) (written memory disk s parts sam size));
+            ∙ commit-end (memory .blocks) (memory .sam .words) (drop logAt disk) (entriesOf memory s) (from memory disk s parts sam size) (k + 1)
+            (omega (arith, commit .due-is, e))
+            ∙ ap (λ (words : List ℕ). diskOf (memory .blocks) 0 words (logged (drop logAt disk) (entriesOf memory s)))
+            (written memory disk s parts sam size));
       }
 
-  pub commit-store : length (memory .slots) ≡ 8 → Consistent (advanced memory (Commit s k due)) stored
-  unfolding advanced
-  commit-store eight = go (eqb (k + 1) due) refl
+  pub commit-store : Consistent (advanced memory (Commit s k due)) stored
+  unfolding advanced storesDone storesDue oneMoreDone finished
+  commit-store = go (eqb (k + 1) due) refl
     where
-      c : CommitParts memory s k due
-      c = commit-parts memory s k due eight pending
-
       go : (t : Bool) → eqb (k + 1) due ≡ t → Consistent (cond t (committed memory s) (withPending memory (Commit s (k + 1) due))) stored
-      go true e = last c (omega (arith, c .below)) (eqb-true (k + 1) due e)
-      go false e = more (omega (arith, eqb-false (k + 1) due e, c .not-ended))
+      go true e = last (eqb-true (k + 1) due e)
+      go false e = more (omega (arith, eqb-false (k + 1) due e, commit .not-ended))

@@ -1,93 +1,89 @@
 -- Start, allocate, deallocate, precommit and rollback leave a valid memory, and SAM as it was.
 use Prim.Native.Nat.{ℕ, _<_}
 use native.Mathlib.Omega.{arith}
-use mathlib.Core.Path.{_≡_, refl}
-use mathlib.Core.Bool.{Bool, true, false, not, _&&_}
+use mathlib.Core.Path.{_≡_, refl, _∙_}
+use mathlib.Core.Bool.{true}
 use mathlib.Core.List.{List}
 use lib.ListN.{length}
-use borrow.Author.Tests.{leb-false, not-false}
+use Rattle.bitmap.specs.Sizes.{slotCount}
 use Rattle.model.specs.declared.memory.Memory.{Memory}
-use Rattle.model.specs.Memory.{slotAt, isActive, samBit, comBit}
-use Rattle.model.specs.Causes.{slotOutOfRange, slotActive, slotInactive, blockFree, blockFreeing}
+use Rattle.model.specs.Memory.{slotAt, isActive}
 use Rattle.model.specs.Calls.Start.{startError, started, startMemory}
 use Rattle.model.specs.Calls.Allocate.{allocateError, lowest, taking, allocateMemory}
 use Rattle.model.specs.Calls.Deallocate.{deallocateError, freeing, deallocateMemory}
 use Rattle.model.specs.Calls.Precommit.{precommitError, precommitting, precommitMemory}
 use Rattle.model.specs.Calls.Rollback.{rollbackError, rolledBack, rollbackMemory}
-use Rattle.model.proofs.Laws.DiskParts.{first-none}
+use Rattle.model.proofs.Laws.Accepted.{Ready, start-accepted, allocate-accepted, deallocate-accepted, precommit-accepted, rollback-accepted}
 use Rattle.model.proofs.Laws.Valid.{ValidParts, valid-parts}
 use Rattle.model.proofs.Laws.Untouched.{started-valid, precommitted-valid}
-use Rattle.model.proofs.Laws.Taking.{taking-valid, freeing-valid}
+use Rattle.model.proofs.Laws.Taking.{AllAvailable, grant-valid, lowest-available, freeing-valid}
 use Rattle.model.proofs.Laws.Rollback.{rolled-back-valid}
 use Rattle.crash_safety.specs.InOrder.{Consistent}
-use Rattle.crash_safety.proofs.Refused.{is-nothing}
 use Rattle.crash_safety.proofs.InOrder.Refused.{unless-refused, same-sam}
 
--- SAM 1, and not SAM 1 and COM 0
-both-set : (sam «com» : Bool) → sam ≡ true → (sam && not «com») ≡ false → «com» ≡ true
-both-set true «com» s e = not-false «com» e
-both-set false «com» s e = absurd (mathlib.Core.Bool.false≢true s)
-
-module _ (memory : Memory) (disk : List ℕ) (eight : length (memory .slots) ≡ 8) (c : Consistent memory disk) where
+module _ (memory : Memory) (disk : List ℕ) (eight : length (memory .slots) ≡ slotCount) (c : Consistent memory disk) where
   parts : ValidParts memory
   parts = valid-parts memory (c .is-valid)
 
-  there : (s : ℕ) → slotOutOfRange s ≡ false → s < length (memory .slots)
-  unfolding slotOutOfRange
-  there s e = omega (arith, leb-false 8 s e)
+  there : (s : ℕ) → Ready memory s → s < length (memory .slots)
+  there s ready = omega (arith, ready .below)
 
-  active : (s : ℕ) → slotInactive memory s ≡ false → isActive (slotAt memory s .state) ≡ true
-  unfolding slotInactive slotActive
-  active s e = not-false (isActive (slotAt memory s .state)) e
+  -- any other valid memory with nothing pending and the same SAM
+  still : (s : ℕ) (other : Memory) → Ready memory s → other .pending ≡ memory .pending → other .blocks ≡ memory .blocks
+      → other .sam .words ≡ memory .sam .words
+      → ValidParts other
+      → Consistent other disk
+  still s other ready pending blocks sam valid =
+      same-sam memory other disk (ready .nothing-pending) (pending ∙ ready .nothing-pending) blocks sam c valid
 
   pub start-consistent : (s : ℕ) → Consistent (startMemory memory s) disk
-  unfolding startMemory startError started slotActive
+  unfolding startMemory started
   start-consistent s =
       unless-refused memory (started memory s) disk (startError memory s) c
       (λ e.
-      let n = first-none _ e in
-      let nothing = is-nothing memory (n .1 .0) in
-      same-sam memory (started memory s) disk nothing nothing refl refl c
-      (started-valid memory s parts nothing (there s (n .1 .1 .0)) (n .1 .1 .1 .0)))
+      let a = start-accepted memory s e in
+      still s (started memory s) (a .ready) refl refl refl
+      (started-valid memory s parts (a .ready .nothing-pending) (there s (a .ready)) (a .idle)))
 
   pub precommit-consistent : (s : ℕ) → Consistent (precommitMemory memory s) disk
-  unfolding precommitMemory precommitError precommitting
+  unfolding precommitMemory precommitting
   precommit-consistent s =
       unless-refused memory (precommitting memory s) disk (precommitError memory s) c
       (λ e.
-      let n = first-none _ e in
-      let nothing = is-nothing memory (n .1 .0) in
-      same-sam memory (precommitting memory s) disk nothing nothing refl refl c
-      (precommitted-valid memory s parts nothing (there s (n .1 .1 .0)) (active s (n .1 .1 .1 .0))))
+      let a = precommit-accepted memory s e in
+      still s (precommitting memory s) (a .ready) refl refl refl
+      (precommitted-valid memory s parts (a .ready .nothing-pending) (there s (a .ready)) (a .active)))
 
   pub rollback-consistent : (s : ℕ) → Consistent (rollbackMemory memory s) disk
-  unfolding rollbackMemory rollbackError rolledBack
+  unfolding rollbackMemory rolledBack
   rollback-consistent s =
       unless-refused memory (rolledBack memory s) disk (rollbackError memory s) c
       (λ e.
-      let n = first-none _ e in
-      let nothing = is-nothing memory (n .1 .0) in
-      same-sam memory (rolledBack memory s) disk nothing nothing refl refl c
-      (rolled-back-valid memory parts s nothing (there s (n .1 .1 .0)) (active s (n .1 .1 .1 .0))))
+      let a = rollback-accepted memory s e in
+      still s (rolledBack memory s) (a .ready) refl refl refl
+      (rolled-back-valid memory parts s (a .ready .nothing-pending) (there s (a .ready)) (a .active)))
+
+  -- a grant of any available blocks
+  pub grant-consistent : (s : ℕ) (blocks : List ℕ) → AllAvailable memory blocks → Ready memory s → isActive (slotAt memory s .state) ≡ true
+      → Consistent (taking memory s blocks) disk
+  unfolding taking
+  grant-consistent s blocks all ready active =
+      still s (taking memory s blocks) ready refl refl refl
+      (grant-valid memory s blocks all parts (ready .nothing-pending) (there s ready) active)
 
   pub allocate-consistent : (s count : ℕ) (list : List ℕ) → Consistent (allocateMemory memory s count list) disk
-  unfolding allocateMemory allocateError taking
+  unfolding allocateMemory
   allocate-consistent s count list =
       unless-refused memory (taking memory s (lowest memory count)) disk (allocateError memory s count list) c
       (λ e.
-      let n = first-none _ e in
-      let nothing = is-nothing memory (n .1 .0) in
-      same-sam memory (taking memory s (lowest memory count)) disk nothing nothing refl refl c
-      (taking-valid memory s count parts nothing (there s (n .1 .1 .0)) (active s (n .1 .1 .1 .0))))
+      let a = allocate-accepted memory s count list e in
+      grant-consistent s (lowest memory count) (lowest-available memory count) (a .ready) (a .active))
 
   pub deallocate-consistent : (s block : ℕ) → Consistent (deallocateMemory memory s block) disk
-  unfolding deallocateMemory deallocateError freeing blockFree blockFreeing
+  unfolding deallocateMemory freeing
   deallocate-consistent s block =
       unless-refused memory (freeing memory s block) disk (deallocateError memory s block) c
       (λ e.
-      let n = first-none _ e in
-      let nothing = is-nothing memory (n .1 .0) in
-      let allocated : samBit memory block ≡ true = not-false (samBit memory block) (n .1 .1 .1 .1 .1 .1 .0) in
-      same-sam memory (freeing memory s block) disk nothing nothing refl refl c
-      (freeing-valid memory s block parts nothing (there s (n .1 .1 .0)) (active s (n .1 .1 .1 .0)) allocated
-      (both-set (samBit memory block) (comBit memory block) allocated (n .1 .1 .1 .1 .1 .1 .1 .0))))
+      let a = deallocate-accepted memory s block e in
+      still s (freeing memory s block) (a .ready) refl refl refl
+      (freeing-valid memory s block parts (a .ready .nothing-pending) (there s (a .ready)) (a .active) (a .allocated) (a .unfreed)))

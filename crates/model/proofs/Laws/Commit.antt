@@ -10,7 +10,7 @@ use Rattle.bitmap.specs.Majority.{majority}
 use Rattle.bitmap.proofs.Laws.Bits.{bit-below, bit-from, below-or-from, noBits-bit}
 use Rattle.bitmap.proofs.Laws.Majority.{majority-untouched, majority-touched}
 use Rattle.model.specs.Types.{Bitmap, Memory}
-use Rattle.model.specs.Memory.{slotAt, slotOf, isActive, samBit, comBit, tamBit, touched, volumeBitmap}
+use Rattle.model.specs.Memory.{slotAt, withTam, isActive, samBit, comBit, tamBit, touched, volumeBitmap}
 use Rattle.model.specs.Commit.{committedSam, refreshed}
 use Rattle.model.proofs.Laws.Valid.{ValidParts, touchesBlock, touches-at, touches-one, touches-two, slot-below}
 
@@ -95,7 +95,7 @@ module _ (memory : Memory) (parts : ValidParts memory) where
       → tamBit (refreshed memory new (slotAt memory t)) b ≡ cond (xor (samBit memory b) (bit (new .words) b)) (bit (new .words) b) (tamBit (slotAt memory t) b)
   unfolding refreshed
   refreshed-bits new t active below b =
-      ap (λ (u : Bool). tamBit (cond u (slotOf (slotAt memory t .state) (volumeBitmap memory bits)) (slotAt memory t)) b) active
+      ap (λ (u : Bool). tamBit (cond u (withTam (slotAt memory t) (volumeBitmap memory bits)) (slotAt memory t)) b) active
       ∙ ⊎-elim
       (λ (h : b < memory .blocks). bit-below (memory .blocks) bits b (parts .few-blocks) h)
       (λ (h : memory .blocks ≤ b). bit-from (memory .blocks) bits b h ∙ sym (outside h))

@@ -9,7 +9,7 @@ use lib.Seq.{getD-set-same, getD-set-other}
 use Rattle.bitmap.specs.Bits.{bit, noBitsFrom, IsBitmap}
 use Rattle.bitmap.proofs.Laws.Bits.{bitmapOf-is, noBits-bit, noBits-bitmapOf}
 use Rattle.model.specs.Types.{Bitmap, Slot, Memory}
-use Rattle.model.specs.Memory.{slotAt, idleSlot, isActive, samBit, comBit, tamBit, touched, slotOf, volumeBitmap}
+use Rattle.model.specs.Memory.{slotAt, idleSlot, isActive, samBit, comBit, tamBit, touched, withTam, volumeBitmap}
 use Rattle.model.specs.Commit.{committedSam, refreshed, committed}
 use Rattle.model.specs.Valid.{slotValid, pendingValid}
 use Rattle.model.proofs.Laws.Valid.{ValidParts, touchesBlock, idle-valid}
@@ -55,8 +55,8 @@ refreshed-valid : (memory : Memory) (new : Bitmap) (slot : Slot) → slotValid (
 unfolding refreshed
 refreshed-valid memory new slot e = go (isActive (slot .state)) refl _
   where
-    go : (t : Bool) → isActive (slot .state) ≡ t → (bits : ℕ → Bool) → slotValid (memory .blocks) (cond t (slotOf (slot .state) (volumeBitmap memory bits)) slot) ≡ true
-    go true active bits = active-valid (memory .blocks) (slotOf (slot .state) (volumeBitmap memory bits)) active (noBits-bitmapOf (memory .blocks) bits)
+    go : (t : Bool) → isActive (slot .state) ≡ t → (bits : ℕ → Bool) → slotValid (memory .blocks) (cond t (withTam slot (volumeBitmap memory bits)) slot) ≡ true
+    go true active bits = active-valid (memory .blocks) (withTam slot (volumeBitmap memory bits)) active (noBits-bitmapOf (memory .blocks) bits)
     go false idle bits = e
 
 -- ---- the memory

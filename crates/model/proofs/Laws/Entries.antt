@@ -7,9 +7,9 @@ use native.Mathlib.Nat.{zero-add, add-zero, add-assoc, suc-add}
 use native.Mathlib.Decide.{decLt}
 use native.Mathlib.Omega.{arith}
 use lib.ListN.{length, getD, set, take, drop, length-set, length-append, length-map}
-use lib.Seq.{set-append-left, take-append-le, getD-set-same, getD-set-other}
+use lib.Seq.{set-append-left, take-append-le, getD-set-same, getD-set-other, set-getD}
 use lib.Dec.{leb, ltb, eqb}
-use borrow.Author.Tests.{ltb-true, leb-true, eqb-false, eq-eqb, lt-ltb, le-leb}
+use borrow.Author.Tests.{ltb-true, leb-true, eqb-true, eqb-false, eq-eqb, lt-ltb, le-leb}
 use Rattle.bitmap.specs.Sizes.{wordsFor}
 use Rattle.bitmap.specs.Bits.{noBitsFrom}
 use Rattle.model.specs.Stores.{Store, _≔_, writes, changesFrom, changes, logStores, onDisk, checkpointWith, journalWith, commitPoint, closingStores, commitStores}
@@ -404,3 +404,12 @@ entries-agree blocks low (e ∷ es) words n l p q =
     (getD-writes-below blocks (suc (e .place)) es next (e .place) (v .rest) (omega arith)
     ∙ getD-set-same words (e .place) (e .value) 0 (omega arith)))
     (entries-agree blocks (suc (e .place)) es next n (length-set words (e .place) (e .value) ∙ l) (p .1) (v .rest))
+
+-- and writing entries that agree with the words changes nothing
+pub writes-agreeing : (es : List Store) (words : List ℕ) → entriesAgree words es ≡ true → writes es words ≡ words
+unfolding writes entriesAgree
+writes-agreeing [] words p = refl
+writes-agreeing (e ∷ es) words p =
+    let there : getD words (e .place) 0 ≡ e .value = eqb-true (getD words (e .place) 0) (e .value) (and-first _ (entriesAgree words es) p) in
+    ap (writes es) (ap (set words (e .place)) (sym there) ∙ set-getD words (e .place) 0)
+    ∙ writes-agreeing es words (and-second (eqb (getD words (e .place) 0) (e .value)) _ p)

@@ -1,8 +1,6 @@
 -- A memory changed in one field has its other fields as they were.
 use Prim.Native.Nat.{ℕ}
 use mathlib.Core.Path.{_≡_, refl}
-use mathlib.Core.List.{List}
-use lib.ListN.{set}
 use Rattle.model.specs.Types.{Bitmap, Slot, Pending, Memory}
 use Rattle.model.specs.Memory.{memoryOf, withSam, withCom, withSlots, withSlot, withPending}
 

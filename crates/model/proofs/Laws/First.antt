@@ -1,7 +1,7 @@
 -- "Checked in number order": laws of the first cause that holds.
-use mathlib.Core.Path.{_≡_, refl, ap, _∙_}
+use mathlib.Core.Path.{_≡_, refl, _∙_}
 use mathlib.Core.Bool.{Bool, true, false}
-use mathlib.Core.Option.{Option, none, some}
+use mathlib.Core.Option.{none, some}
 use mathlib.Core.List.{List, [], _∷_, _++_}
 use Rattle.model.specs.Types.{Error}
 use Rattle.model.specs.Errors.{Cause, first, firstOr, _⇒_}

@@ -6,19 +6,31 @@ use mathlib.Core.List.{List}
 use lib.ListN.{length, drop}
 use lib.Dec.{eqb}
 use borrow.Author.Tests.{eqb-true, eq-eqb}
+use Rattle.bitmap.specs.Sizes.{bitmapWords}
 use Rattle.bitmap.specs.Bits.{noBitsFrom}
 use Rattle.model.specs.Types.{Memory}
 use Rattle.model.specs.Sizes.{logAt}
 use Rattle.model.specs.Stores.{writes}
 use Rattle.model.specs.Valid.{sameWords}
-use Rattle.model.specs.Disk.{diskBlocks, logLength, diskBitmap, diskOf, logEntries, logValid, entriesAgree, recoveryMatches}
+use Rattle.model.specs.Disk.{diskBlocks, logLength, diskBitmap, diskOf, baseImage, entriesIn, durable, logEntries, logValid, entriesAgree, recoveryMatches}
 use Rattle.model.proofs.Laws.Writes.{and-both, and-first, and-second, same-words, words-same}
-use Rattle.model.proofs.Laws.DiskParts.{diskOf-log}
+use Rattle.model.proofs.Laws.DiskParts.{diskOf-bitmap, diskOf-log, diskOf-durable}
 
 -- nothing pending: log words mean nothing
-pub quiet-matches : (disk : List ℕ) (blocks : ℕ) (words log : List ℕ) → length words ≡ 128 → disk ≡ diskOf blocks 0 words log → sameWords disk (diskOf blocks 0 words (drop logAt disk)) ≡ true
+pub quiet-matches : (disk : List ℕ) (blocks : ℕ) (words log : List ℕ) → length words ≡ bitmapWords → disk ≡ diskOf blocks 0 words log
+    → sameWords disk (diskOf blocks 0 words (drop logAt disk)) ≡ true
 quiet-matches disk blocks words log size e =
     ap (sameWords disk) (ap (diskOf blocks 0 words) (ap (drop logAt) e ∙ diskOf-log blocks 0 words log size) ∙ sym e) ∙ words-same disk
+
+-- then the disk stands for its own bitmap
+pub quiet-durable : (memory : Memory) (disk : List ℕ) → length (memory .sam .words) ≡ bitmapWords → sameWords disk (baseImage memory disk) ≡ true
+    → durable disk ≡ diskBitmap disk
+unfolding entriesIn writes
+quiet-durable memory disk size e =
+    let is : disk ≡ baseImage memory disk = same-words disk (baseImage memory disk) e in
+    ap durable is
+    ∙ diskOf-durable (memory .blocks) 0 (memory .sam .words) (drop logAt disk) size
+    ∙ sym (ap (λ (d : List ℕ). diskBitmap d) is ∙ diskOf-bitmap (memory .blocks) 0 (memory .sam .words) (drop logAt disk) size)
 
 -- in recovery, part by part
 pub record RecoveryMatches (memory : Memory) (disk : List ℕ) (done due : ℕ) : Type 0 where

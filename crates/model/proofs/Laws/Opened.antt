@@ -1,12 +1,12 @@
 -- The memory that an open gives is valid, and the disk is as it leaves it.
-use Prim.Native.Nat.{ℕ, zero, suc, _+_, _/_, _≤_, _<_}
+use Prim.Native.Nat.{ℕ, zero, suc, _+_, _≤_}
 use native.Mathlib.Omega.{arith}
 use mathlib.Core.Path.{_≡_, refl, sym, ap, _∙_}
 use mathlib.Core.Bool.{true}
 use mathlib.Core.Option.{none}
 use mathlib.Core.List.{List}
 use lib.ListN.{replicate, drop}
-use borrow.Author.Tests.{le-leb, lt-ltb, eq-eqb}
+use borrow.Author.Tests.{eq-eqb}
 use Rattle.bitmap.specs.Bits.{bit}
 use Rattle.bitmap.proofs.Laws.Blocks.{allBelow-all}
 use Rattle.model.specs.Types.{Pending, Nothing, Recovery, Memory}

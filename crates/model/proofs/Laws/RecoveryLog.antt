@@ -17,7 +17,7 @@ use Rattle.model.specs.Valid.{sameWords}
 use Rattle.model.specs.Disk.{diskBlocks, logLength, diskBitmap, diskOf, entriesIn, logEntries, entriesValid, entriesAgree, durable, baseImage}
 use Rattle.model.specs.Calls.Opening.{openError}
 use Rattle.model.proofs.Laws.Writes.{writes-append, writes-again, length-writes}
-use Rattle.model.proofs.Laws.Entries.{places-take, places-drop, valid-take, valid-drop, writes-noBits-from, take-map, drop-map}
+use Rattle.model.proofs.Laws.Entries.{places-take, places-drop, valid-take, valid-drop, writes-noBits-from, take-map, drop-map, writes-agreeing}
 use Rattle.model.proofs.Laws.DiskParts.{Opens, opens-parts, diskOf-bitmap, diskOf-entries, diskOf-durable, disk-parts, writes-onDisk, diskOf-opens, log-valid}
 use Rattle.model.proofs.Laws.Closing.{Closing, closing-take, closing-drop, Closed, closed, closed-durable, closed-opens}
 use Rattle.model.proofs.Laws.Matching.{RecoveryMatches, quiet-matches}
@@ -149,6 +149,13 @@ module _ (closing : List Store) (disk : List ℕ) (opens : openError disk ≡ no
       ap (λ (es : List Store). writes es words)
       (sym (drop-of-length-le (logEntries disk) {i = k} (omega (arith, entries-length disk opens))))
       ∙ m .rest
+
+  -- and that is what the disk stands for
+  pub rewritten-durable : (memory : Memory) (k due : ℕ) → logLength disk ≤ k → RecoveryMatches memory disk k due → durable disk ≡ diskBitmap disk
+  unfolding durable
+  rewritten-durable memory k due h m =
+      let sam : diskBitmap disk ≡ memory .sam .words = all-rewritten memory k due h m in
+      ap (writes (logEntries disk)) sam ∙ writes-agreeing (logEntries disk) (memory .sam .words) (m .agrees) ∙ sym sam
 
   module _ (k : ℕ) (h : logLength disk ≤ k) (c : Closing closing) where
     closed-next : Closed (diskBlocks disk) (getD disk lengthAt 0) words log (checkpointNext closing disk k)

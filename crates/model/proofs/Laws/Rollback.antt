@@ -3,7 +3,7 @@ use Prim.Native.Nat.{ℕ, _+_, _≤_, _<_}
 use native.Mathlib.Omega.{arith}
 use mathlib.Core.Path.{_≡_, refl, sym, ap, ap₂, _∙_}
 use mathlib.Core.Logic.{⊎-elim}
-use mathlib.Core.Bool.{Bool, true, false, not, cond, xor, _&&_}
+use mathlib.Core.Bool.{Bool, true, false, not, cond, xor}
 use lib.ListN.{length}
 use Rattle.bitmap.specs.Bits.{bit}
 use Rattle.bitmap.specs.Majority.{majority}

@@ -10,7 +10,7 @@ use denote.Laws.{Is}
 use denote.Shadow.{shadow}
 use denote.Array.{each}
 use denote.Struct.Field.{u32-field, array-field}
-use Rattle.bitmap.specs.Sizes.{slotCount, bitmapWords}
+use Rattle.bitmap.specs.Sizes.{slotCount}
 use Rattle.bitmap.specs.Bits.{IsBitmap}
 use Rattle.model.specs.declared.memory.Slot.{Slot}
 use Rattle.model.specs.declared.memory.Memory.{Memory}

@@ -13,7 +13,7 @@ use Rattle.bitmap.specs.Blocks.{member}
 use Rattle.bitmap.proofs.Laws.Bits.{bit-below, noBits-bitmapOf}
 use Rattle.bitmap.proofs.Laws.Blocks.{member-take, available-below, available-free, available-unused}
 use Rattle.model.specs.Types.{Nothing, Slot, Memory}
-use Rattle.model.specs.Memory.{slotAt, slotOf, isActive, samBit, comBit, tamBit, touched, withCom, withSlot, volumeBitmap}
+use Rattle.model.specs.Memory.{slotAt, withTam, isActive, samBit, comBit, tamBit, touched, withCom, withSlot, volumeBitmap}
 use Rattle.model.specs.Causes.{available}
 use Rattle.model.specs.Calls.Allocate.{lowest, taking}
 use Rattle.model.specs.Calls.Deallocate.{freeing}
@@ -45,7 +45,7 @@ module _ (memory : Memory) (s : ℕ) (parts : ValidParts memory) (nothing : memo
       → ((b : ℕ) → b < memory .blocks → turned b ≡ true → comBit memory b ≡ samBit memory b)
       → ((b : ℕ) → newCom b ≡ cond (turned b) (not (samBit memory b)) (comBit memory b))
       → ((b : ℕ) → newTam b ≡ cond (turned b) (not (samBit memory b)) (tamBit (slotAt memory s) b))
-      → ValidParts (withSlot (withCom memory (volumeBitmap memory newCom)) s (slotOf (slotAt memory s .state) (volumeBitmap memory newTam)))
+      → ValidParts (withSlot (withCom memory (volumeBitmap memory newCom)) s (withTam (slotAt memory s) (volumeBitmap memory newTam)))
   unfolding touched
   turned-valid turned newCom newTam same com-is tam-is =
       touching-valid memory s slot (volumeBitmap memory newCom) parts nothing h
@@ -54,7 +54,7 @@ module _ (memory : Memory) (s : ℕ) (parts : ValidParts memory) (nothing : memo
       (λ b inside. go b inside (turned b) refl)
     where
       slot : Slot
-      slot = slotOf (slotAt memory s .state) (volumeBitmap memory newTam)
+      slot = withTam (slotAt memory s) (volumeBitmap memory newTam)
 
       -- the new bits of COM and of the slot
       com-bit : (b : ℕ) → b < memory .blocks → bit (volumeBitmap memory newCom .words) b ≡ cond (turned b) (not (samBit memory b)) (comBit memory b)
@@ -88,43 +88,47 @@ module _ (memory : Memory) (s : ℕ) (parts : ValidParts memory) (nothing : memo
             ap (λ (t : Bool). one (xor sam t)) «com»,
           )
 
--- ---- allocate
+-- ---- a grant
 
--- a given block is below m, with SAM 0 and COM 0
-pub record Given (memory : Memory) (b : ℕ) : Type 0 where
+-- an available block is below m, with SAM 0 and COM 0
+pub record Available (memory : Memory) (b : ℕ) : Type 0 where
   pub below : b < memory .blocks
   pub free : samBit memory b ≡ false
   pub unused : comBit memory b ≡ false
 
-pub given : (memory : Memory) (count b : ℕ) → member b (lowest memory count) ≡ true → Given memory b
+-- every block of a list is
+abbrev pub AllAvailable : Memory → List ℕ → Type 0
+AllAvailable memory blocks = (b : ℕ) → member b blocks ≡ true → Available memory b
+
+-- a grant of available blocks, in whatever order and however often they are listed, leaves a valid memory
+pub grant-valid : (memory : Memory) (s : ℕ) (blocks : List ℕ)
+    → AllAvailable memory blocks
+    → ValidParts memory
+    → memory .pending ≡ Nothing
+    → s < length (memory .slots)
+    → isActive (slotAt memory s .state) ≡ true
+    → ValidParts (taking memory s blocks)
+unfolding taking
+grant-valid memory s blocks all parts nothing h active =
+    turned-valid memory s parts nothing h active (λ b. member b blocks) _ _
+    (λ b inside e. all b e .unused ∙ sym (all b e .free))
+    (λ b. set-there b (member b blocks) refl (comBit memory b))
+    (λ b. set-there b (member b blocks) refl (tamBit (slotAt memory s) b))
+  where
+    set-there : (b : ℕ) (t : Bool) → member b blocks ≡ t → (old : Bool) → (t || old) ≡ cond t (not (samBit memory b)) old
+    set-there b true e old = sym (ap not (all b e .free))
+    set-there b false e old = refl
+
+-- the n lowest available blocks are such a list
+pub lowest-available : (memory : Memory) (count : ℕ) → AllAvailable memory (lowest memory count)
 unfolding lowest available
-given memory count b e =
+lowest-available memory count b e =
     let p = available-below (memory .blocks) (memory .sam .words) (memory .com .words) b (member-take count b _ e) in
     record {
       below = p .0;
       free = available-free (memory .sam .words) (memory .com .words) b (p .1);
       unused = available-unused (memory .sam .words) (memory .com .words) b (p .1);
     }
-
-pub taking-valid : (memory : Memory) (s count : ℕ)
-    → ValidParts memory
-    → memory .pending ≡ Nothing
-    → s < length (memory .slots)
-    → isActive (slotAt memory s .state) ≡ true
-    → ValidParts (taking memory s (lowest memory count))
-unfolding taking
-taking-valid memory s count parts nothing h active =
-    turned-valid memory s parts nothing h active (λ b. member b blocks) _ _
-    (λ b inside e. given memory count b e .unused ∙ sym (given memory count b e .free))
-    (λ b. set-there b (member b blocks) refl (comBit memory b))
-    (λ b. set-there b (member b blocks) refl (tamBit (slotAt memory s) b))
-  where
-    blocks : List ℕ
-    blocks = lowest memory count
-
-    set-there : (b : ℕ) (t : Bool) → member b blocks ≡ t → (old : Bool) → (t || old) ≡ cond t (not (samBit memory b)) old
-    set-there b true e old = sym (ap not (given memory count b e .free))
-    set-there b false e old = refl
 
 -- ---- deallocate
 

@@ -5,7 +5,7 @@ use mathlib.Core.Path.{_≡_, refl, ap}
 use mathlib.Core.Bool.{Bool, true, false, _&&_}
 use lib.ListN.{length}
 use Rattle.model.specs.Types.{Open, Precommitted, Slot, Nothing, Memory}
-use Rattle.model.specs.Memory.{slotAt, slotOf, isActive, samBit, touched}
+use Rattle.model.specs.Memory.{slotAt, withState, withTam, isActive, samBit, touched}
 use Rattle.model.specs.Calls.Start.{started}
 use Rattle.model.specs.Calls.Precommit.{precommitting}
 use Rattle.model.proofs.Laws.Valid.{ValidParts, slot-below}
@@ -25,7 +25,7 @@ module _ (memory : Memory) (s : ℕ) (parts : ValidParts memory) (nothing : memo
       ))
     where
       copy : Slot
-      copy = slotOf Open (memory .sam)
+      copy = withState (withTam (slotAt memory s) (memory .sam)) Open
 
   -- the slot's bitmap stays
   pub precommitted-valid : isActive (slotAt memory s .state) ≡ true → ValidParts (precommitting memory s)
@@ -35,4 +35,4 @@ module _ (memory : Memory) (s : ℕ) (parts : ValidParts memory) (nothing : memo
       (λ b inside. omega (arith, ap (λ (t : Bool). one (t && touched memory (slotAt memory s) b)) active))
     where
       after : Slot
-      after = slotOf Precommitted (slotAt memory s .tam)
+      after = withState (slotAt memory s) Precommitted

@@ -1,20 +1,19 @@
 -- What a valid memory is, part by part.
-use Prim.Native.Nat.{ℕ, zero, suc, _+_, _-_, _*_, _^_, _≤_, _<_}
+use Prim.Native.Nat.{ℕ, zero, suc, _-_, _*_, _≤_, _<_}
 use native.Mathlib.Omega.{arith}
-use mathlib.Core.Path.{_≡_, refl, sym, ap, _∙_}
-use mathlib.Core.Bool.{Bool, true, false, not, cond, xor, _&&_, false≢true, true≢false}
+use mathlib.Core.Path.{_≡_, refl, ap}
+use mathlib.Core.Bool.{Bool, true, cond, xor, _&&_, false≢true}
 use mathlib.Core.List.{List, [], _∷_}
-use lib.ListN.{length, getD, replicate, getD-replicate}
+use lib.ListN.{getD, replicate, getD-replicate}
 use lib.Pow.{pow-pos}
 use lib.Dec.{eqb}
 use borrow.Author.Tests.{eqb-true}
-use Rattle.bitmap.specs.Bits.{bit, noBitsFrom}
-use Rattle.bitmap.specs.Blocks.{allBelow}
+use Rattle.bitmap.specs.Bits.{noBitsFrom}
 use Rattle.bitmap.proofs.Laws.Bits.{noBits-all}
 use Rattle.bitmap.proofs.Laws.Blocks.{allBelow-at}
 use Rattle.model.specs.Types.{Slot, Memory}
-use Rattle.model.specs.Memory.{slotAt, idleSlot, isActive, samBit, comBit, tamBit, touched, emptyBitmap}
-use Rattle.model.specs.Valid.{blocksInRange, sameWords, allSlots, slotValid, touches, touchesAgree, pendingValid, valid}
+use Rattle.model.specs.Memory.{slotAt, idleSlot, isActive, samBit, comBit, touched}
+use Rattle.model.specs.Valid.{blocksInRange, allSlots, slotValid, touches, touchesAgree, pendingValid, valid}
 use Rattle.model.proofs.Laws.Writes.{and-both, and-first, and-second, words-same}
 use Rattle.model.proofs.Laws.DiskParts.{blocks-inRange, inRange-low, inRange-high}
 
