@@ -25,3 +25,4 @@ pub mod Completion
 pub mod Recovering
 pub mod Theorem
 pub mod Consequences
+pub mod Histories

@@ -21,3 +21,4 @@ pub mod CommitLog
 pub mod Durable
 pub mod RecoveryLog
 pub mod Opened
+pub mod Rows

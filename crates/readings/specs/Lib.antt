@@ -1,4 +1,2 @@
--- The definitions at work: document 01's readings, and histories with the ledger's sets and the bitmap that an open finds.
-pub mod Rows
+-- The definitions at work: document 01's readings.
 pub mod Table
-pub mod Histories

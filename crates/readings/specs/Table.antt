@@ -1,43 +1,47 @@
 -- Document 01, "Bench readings", P1 to P12, as one table that computes.
 -- "m is 4, SAM word 0 is 1, seat 1 takes 1 block, seat 2 takes 2 (document 000, figure 3)."
-use Prim.Native.Nat.{ℕ, zero, suc, _+_, _*_}
+use Prim.Native.Nat.{ℕ, _-_}
 use mathlib.Core.Path.{_≡_, refl}
-use mathlib.Core.Bool.{Bool, true, false, xor, _&&_}
-use mathlib.Core.List.{List, [], _∷_, _++_}
+use mathlib.Core.Bool.{true, false, xor}
+use mathlib.Core.List.{List, [], _∷_}
 use lib.ListN.{getD, take, replicate}
-use Rattle.readings.specs.Rows.{sameRows, rows-same}
-use Rattle.bitmap.specs.Sizes.{wordsFor}
-use Rattle.bitmap.specs.Bits.{isSet, bit, wordOf, wordsOf, bitmapOf, noBitsFrom}
-use Rattle.bitmap.specs.Blocks.{scan, from, isAvailable, availableBlocks, member, allBelow}
-use Rattle.bitmap.specs.Majority.{majority}
 use Rattle.bitmap.specs.declared.Bitmap.{Bitmap}
-use Rattle.model.specs.declared.memory.Memory.{Memory}
+use Rattle.bitmap.specs.Sizes.{bitmapWords, maxCount, wordsFor}
 use Rattle.model.specs.declared.memory.Pending.the-variants.{Nothing}
-use Rattle.model.specs.Errors.{firstOr, first, unlessRefused}
-use Rattle.model.specs.Answers.{doneNumber, grantNumber, storesNumber, storesValue, done, granted, due}
-use Rattle.model.specs.Memory.{quietMemory, bitmap, slotAt, touched}
-use Rattle.model.specs.Stores.{Store, writes, after, changesFrom, logStores, checkpointStores, commitStores}
-use Rattle.model.specs.Commit.{committedSam, entriesOf, changedOf, refreshed, committed}
-use Rattle.model.specs.Valid.{blocksInRange, sameWords, allSlots, slotValid, touches, touchesAgree, isQuiet, pendingValid, valid}
-use Rattle.model.specs.Disk.{diskOf, entriesIn, logEntries, entriesValid, logValid, durable, dueStores, entriesAgree, recoveryMatches, diskMatches}
-use Rattle.model.specs.Causes.{memoryInvalid, diskLengthWrong, diskBlocksWrong, diskBitmapWrong, diskLogWrong, diskMismatched, isNothing, nothingPending, workPending, slotOutOfRange, slotActive, slotInactive, slotPrecommitted, slotNotPrecommitted, countOutOfRange, listShort, available, tooFewAvailable, blockOutOfRange, blockFree, blockFreeing}
-use Rattle.model.specs.Calls.Opening.{openError, recoveryDue, recoveryPending, opened, openAnswer, openMemory}
-use Rattle.model.specs.Calls.Start.{startError, started, startAnswer, startMemory}
+use Rattle.model.specs.declared.answer.Counts.{Counts}
+use Rattle.model.specs.Sizes.{logWords}
+use Rattle.model.specs.Completion.{afterStores}
+use Rattle.bitmap.specs.Bits.{isSet, bit, wordOf, wordsOf, bitmapOf, noBitsFrom}
+use Rattle.bitmap.specs.Blocks.{scan, from, allocatedBlocks, isAvailable, availableBlocks, member, allBelow}
+use Rattle.bitmap.specs.Majority.{majority}
+use Rattle.model.specs.Answers.{done, granted, due, counted, doneNumber, grantNumber, storesNumber, storesValue}
 use Rattle.model.specs.Calls.Allocate.{allocateError, lowest, taking, allocateAnswer, allocateMemory, allocateList}
+use Rattle.model.specs.Calls.Committing.{commitError, committing, commitAnswer, commitMemory}
 use Rattle.model.specs.Calls.Deallocate.{deallocateError, freeing, deallocateAnswer, deallocateMemory}
+use Rattle.model.specs.Calls.Opening.{openError, recoveryDue, recoveryPending, opened, openAnswer, openMemory}
 use Rattle.model.specs.Calls.Precommit.{precommitError, precommitting, precommitAnswer, precommitMemory}
-use Rattle.model.specs.Calls.Committing.{commitError, commitDue, committing, commitAnswer, commitMemory}
-use Rattle.model.specs.Calls.Storing.{storeError, storesDone, stillDue, advanced, nextStored, storeAnswer, storeMemory, storeDisk}
+use Rattle.model.specs.Calls.Start.{startError, started, startAnswer, startMemory}
+use Rattle.model.specs.Calls.Status.{statusError, allocated, activeSlots, counts, statusAnswer}
+use Rattle.model.specs.Calls.Storing.{storeError, stillDue, advanced, nextStored, storeAnswer, storeMemory, storeDisk}
+use Rattle.model.specs.Causes.{memoryInvalid, diskLengthWrong, diskBlocksWrong, diskBitmapWrong, diskLogWrong, diskMismatched, isNothing, nothingPending, workPending, slotOutOfRange, slotActive, slotInactive, slotPrecommitted, slotNotPrecommitted, countOutOfRange, listShort, available, tooFewAvailable, blockOutOfRange, blockFree, blockFreeing}
+use Rattle.model.specs.Commit.{committedSam, entriesOf, changedOf, commitDue, refreshed, committed}
+use Rattle.model.specs.Disk.{diskOf, entriesIn, logEntries, entriesValid, logValid, durable, dueStores, entriesAgree, recoveryMatches, diskMatches}
+use Rattle.model.specs.Errors.{firstOr, first, unlessRefused}
+use Rattle.model.specs.Memory.{touched, quietMemory, bitmap, slotAt}
+use Rattle.model.specs.Pending.{storesDone, storesDue, oneMoreDone, finished}
+use Rattle.model.specs.Stores.{writes, changesFrom, logStores, checkpointWith, journalWith, checkpointStores, commitStores, Store}
+use Rattle.model.specs.Valid.{blocksInRange, sameWords, allSlots, slotValid, touches, touchesAgree, isQuiet, pendingValid, valid}
+use Rattle.model.proofs.Laws.Rows.{sameRows, rows-same}
 
 -- a list of 64 places, as the bench program lends
 list : List ℕ
-list = replicate 64 0
+list = replicate maxCount 0
 
-sam0 : Bitmap
-sam0 = bitmap (1 ∷ replicate 127 0)
+pub sam0 : Bitmap
+sam0 = bitmap (1 ∷ replicate (bitmapWords - 1) 0)
 
 disk0 : List ℕ
-disk0 = diskOf 4 0 (sam0 .words) (replicate 256 0)
+disk0 = diskOf 4 0 (sam0 .words) (replicate logWords 0)
 
 -- word 0 of a bitmap
 word0 : Bitmap → ℕ
@@ -47,16 +51,9 @@ flat : List Store → List ℕ
 flat [] = []
 flat (store ∷ stores) = store .place ∷ store .value ∷ flat stores
 
--- a memory and a disk
-record Pair : Type 0 where
-  memory : Memory
-  disk : List ℕ
-
--- after n store calls
-stored : ℕ → Pair → Pair
-stored zero pair = pair
-stored (suc n) pair =
-    stored n (record { memory = storeMemory (pair .memory) (pair .disk); disk = storeDisk (pair .memory) (pair .disk) })
+-- allocated, free, active
+pub figures : Counts → List ℕ
+figures found = found .allocated ∷ found .free ∷ found .active ∷ []
 
 -- slot 1 opens and takes its block; slot 2 opens, takes its two, precommits and commits, to the fifth store
 pub readings : List (List ℕ)
@@ -67,10 +64,9 @@ readings =
     let taken2 = allocateMemory open2 2 2 list in
     let precommitted2 = precommitMemory taken2 2 in
     let pending2 = commitMemory precommitted2 2 in
-    let begun2 : Pair = record { memory = pending2; disk = disk0 } in
-    let committed2 = stored 5 begun2 .memory in
-    let crash2 = stored 2 begun2 .disk in
-    let crash3 = stored 3 begun2 .disk in
+    let committed2 = afterStores 5 pending2 disk0 .memory in
+    let crash2 = afterStores 2 pending2 disk0 .disk in
+    let crash3 = afterStores 3 pending2 disk0 .disk in
     let precommitted1 = precommitMemory open1 1 in
     take 1 (allocateList open1 1 1 list)
     ∷ take 2 (allocateList open2 2 2 list)
@@ -104,8 +100,20 @@ expected =
     ∷ []
 
 computed : sameRows readings expected ≡ true
-unfolding sameRows expected list sam0 disk0 stored word0 flat readings isSet bit wordOf wordsOf bitmapOf noBitsFrom scan from isAvailable availableBlocks member allBelow majority firstOr first unlessRefused done granted due touched xor writes changesFrom logStores checkpointStores commitStores committedSam entriesOf changedOf refreshed committed blocksInRange sameWords allSlots slotValid touches touchesAgree isQuiet pendingValid valid entriesIn logEntries entriesValid logValid durable dueStores entriesAgree recoveryMatches diskMatches memoryInvalid diskLengthWrong diskBlocksWrong diskBitmapWrong diskLogWrong diskMismatched isNothing nothingPending workPending slotOutOfRange slotActive slotInactive slotPrecommitted slotNotPrecommitted countOutOfRange listShort available tooFewAvailable blockOutOfRange blockFree blockFreeing openError recoveryDue recoveryPending opened openAnswer openMemory startError started startAnswer startMemory allocateError lowest taking allocateAnswer allocateMemory allocateList deallocateError freeing deallocateAnswer deallocateMemory precommitError precommitting precommitAnswer precommitMemory commitError commitDue committing commitAnswer commitMemory storeError storesDone stillDue advanced nextStored storeAnswer storeMemory storeDisk
+unfolding sameRows expected list sam0 disk0 word0 flat readings xor isSet bit wordOf wordsOf bitmapOf noBitsFrom scan from allocatedBlocks isAvailable availableBlocks member allBelow majority done granted due counted allocateError lowest taking allocateAnswer allocateMemory allocateList commitError committing commitAnswer commitMemory deallocateError freeing deallocateAnswer deallocateMemory openError recoveryDue recoveryPending opened openAnswer openMemory precommitError precommitting precommitAnswer precommitMemory startError started startAnswer startMemory statusError allocated activeSlots counts statusAnswer storeError stillDue advanced nextStored storeAnswer storeMemory storeDisk memoryInvalid diskLengthWrong diskBlocksWrong diskBitmapWrong diskLogWrong diskMismatched isNothing nothingPending workPending slotOutOfRange slotActive slotInactive slotPrecommitted slotNotPrecommitted countOutOfRange listShort available tooFewAvailable blockOutOfRange blockFree blockFreeing committedSam entriesOf changedOf commitDue refreshed committed entriesIn logEntries entriesValid logValid durable dueStores entriesAgree recoveryMatches diskMatches firstOr first unlessRefused touched storesDone storesDue oneMoreDone finished writes changesFrom logStores checkpointWith journalWith checkpointStores commitStores blocksInRange sameWords allSlots slotValid touches touchesAgree isQuiet pendingValid valid
 computed = refl
 
 pub table : readings ≡ expected
 table = rows-same readings expected computed
+
+-- ---- two rules that no other reading looks at
+
+-- status: "allocated is the number of ones in SAM, free is m less allocated, and the seats not idle are counted"
+pub free-figure : figures (counts (started (quietMemory 4 sam0 Nothing) 1)) ≡ 1 ∷ 3 ∷ 1 ∷ []
+unfolding figures counts allocated activeSlots allocatedBlocks from scan bit isSet sam0 started
+free-figure = refl
+
+-- cause 16, "list shorter than the count": a list as long as the count is not
+pub short-list : (listShort (9 ∷ []) 2 ≡ true) × (listShort (9 ∷ 9 ∷ []) 2 ≡ false)
+unfolding listShort
+short-list = (refl, refl)

@@ -3,7 +3,7 @@ use Prim.Native.Nat.{ℕ, _+_, _≤_, _<_}
 use native.Mathlib.Omega.{arith}
 use mathlib.Core.Path.{_≡_, refl, sym, ap, ap₂, _∙_}
 use mathlib.Core.Logic.{⊎-elim}
-use mathlib.Core.Bool.{Bool, true, false, not, cond, xor}
+use mathlib.Core.Bool.{Bool, true, false, not, cond, xor, _&&_}
 use lib.ListN.{length}
 use Rattle.bitmap.specs.Bits.{bit}
 use Rattle.bitmap.specs.Majority.{majority}
@@ -58,7 +58,7 @@ module _ (memory : Memory) (parts : ValidParts memory) (s : ℕ) where
       go : (b : ℕ) → b < memory .blocks → (t : Bool) → touched memory (slotAt memory s) b ≡ t
           → 0 + one (differs memory b) ≡ one (touchesBlock memory (slotAt memory s) b) + one (xor (samBit memory b) (bit (rolledBackCom memory s .words) b))
       go b inside true e =
-          let touches-it : touchesBlock memory (slotAt memory s) b ≡ true = ap₂ _&&_ active e in
+          let touches-it : touchesBlock memory (slotAt memory s) b ≡ true = ap₂ (λ (x y : Bool). x && y) active e in
           let back : bit (rolledBackCom memory s .words) b ≡ samBit memory b = rolled-back-bits b ∙ ap (λ (t : Bool). cond t (samBit memory b) (comBit memory b)) e in
           omega (
             arith,
@@ -68,6 +68,6 @@ module _ (memory : Memory) (parts : ValidParts memory) (s : ℕ) where
             ap one (xor-self (samBit memory b)),
           )
       go b inside false e =
-          let untouched : touchesBlock memory (slotAt memory s) b ≡ false = ap₂ _&&_ active e in
+          let untouched : touchesBlock memory (slotAt memory s) b ≡ false = ap₂ (λ (x y : Bool). x && y) active e in
           let kept : bit (rolledBackCom memory s .words) b ≡ comBit memory b = rolled-back-bits b ∙ ap (λ (t : Bool). cond t (samBit memory b) (comBit memory b)) e in
           omega (arith, ap one untouched, ap (λ (t : Bool). one (xor (samBit memory b) t)) kept)

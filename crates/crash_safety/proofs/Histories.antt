@@ -1,0 +1,236 @@
+-- Histories computed from the definitions: from a format of 4 blocks, what each call answers, what the ledger then holds, and the
+-- blocks that an open finds. And the holders of a ledger that no list of calls makes.
+use Prim.Native.Nat.{ℕ}
+use mathlib.Core.Path.{_≡_, refl}
+use mathlib.Core.Bool.{true, xor}
+use mathlib.Core.Option.{none}
+use mathlib.Core.List.{List, [], _∷_, _++_, map}
+use lib.ListN.{replicate}
+use Rattle.bitmap.specs.Sizes.{maxCount, slotCount}
+use Rattle.bitmap.specs.Bits.{isSet, bit, wordOf, wordsOf, bitmapOf, noBitsFrom}
+use Rattle.bitmap.specs.Blocks.{scan, from, allocatedBlocks, isAvailable, availableBlocks, member, allBelow}
+use Rattle.bitmap.specs.Majority.{majority}
+use Rattle.model.specs.Answers.{done, granted, due, counted}
+use Rattle.model.specs.Calls.Allocate.{allocateError, lowest, taking, allocateAnswer, allocateMemory, allocateList}
+use Rattle.model.specs.Calls.Committing.{commitError, committing, commitAnswer, commitMemory}
+use Rattle.model.specs.Calls.Deallocate.{deallocateError, freeing, deallocateAnswer, deallocateMemory}
+use Rattle.model.specs.Calls.Format.{formatError, formatted, formatAnswer, formatDisk}
+use Rattle.model.specs.Calls.Opening.{openError, recoveryDue, recoveryPending, opened, openAnswer, openMemory}
+use Rattle.model.specs.Calls.Precommit.{precommitError, precommitting, precommitAnswer, precommitMemory}
+use Rattle.model.specs.Calls.Rollback.{rollbackError, rolledBackCom, rolledBack, rollbackAnswer, rollbackMemory}
+use Rattle.model.specs.Calls.Start.{startError, started, startAnswer, startMemory}
+use Rattle.model.specs.Calls.Status.{statusError, counts as statusCounts, statusAnswer, allocated, activeSlots}
+use Rattle.model.specs.Calls.Storing.{storeError, stillDue, advanced, nextStored, storeAnswer, storeMemory, storeDisk}
+use Rattle.model.specs.Causes.{memoryInvalid, diskLengthWrong, diskBlocksWrong, diskBitmapWrong, diskLogWrong, diskMismatched, blocksOutOfRange, isNothing, nothingPending, workPending, slotOutOfRange, slotActive, slotInactive, slotPrecommitted, slotNotPrecommitted, countOutOfRange, listShort, available, tooFewAvailable, blockOutOfRange, blockFree, blockFreeing}
+use Rattle.model.specs.Commit.{committedSam, entriesOf, changedOf, commitDue, refreshed, committed}
+use Rattle.model.specs.Disk.{entriesIn, logEntries, entriesValid, logValid, durable, dueStores, entriesAgree, recoveryMatches, diskMatches}
+use Rattle.model.specs.Errors.{firstOr, first, unlessRefused}
+use Rattle.model.specs.Memory.{touched}
+use Rattle.model.specs.Outcome.{outcome, Call, Outcome, openCall, startCall, allocateCall, deallocateCall, precommitCall, commitCall, rollbackCall, storeCall, statusCall, crashCall}
+use Rattle.model.specs.Pending.{storesDone, storesDue, oneMoreDone, finished}
+use Rattle.model.specs.Stores.{writes, changesFrom, logStores, checkpointWith, journalWith, checkpointStores, commitStores}
+use Rattle.model.specs.Valid.{blocksInRange, sameWords, allSlots, slotValid, touches, touchesAgree, isQuiet, pendingValid, valid}
+use Rattle.crash_safety.specs.Ledger.{emptied, hasWord, wordsFrom, setsWords, without, takes, frees, counts, commits, stores, entered, enter, Ledger, Sets, noSets, ledgerOf, setsOf, holders, takers}
+use Rattle.crash_safety.specs.World.{event, made, step, run, World, begin}
+use Rattle.model.specs.Sizes.{diskWords}
+use Rattle.model.proofs.Laws.Rows.{sameRows, rows-same}
+
+-- ---- what is shown
+
+-- the world after some calls, and their numbers and values
+record Course : Type 0 where
+  world : World
+  numbers : List ℕ
+  values : List ℕ
+
+follow : List Call → Course → Course
+follow [] course = course
+follow (call ∷ calls) course =
+    let after : Outcome = outcome call (course .world .memory) (course .world .disk) in
+    follow calls
+    (record {
+      world = step call (course .world);
+      numbers = course .numbers ++ (after .number ∷ []);
+      values = course .values ++ (after .value ∷ []);
+    })
+
+-- of a slot: taken, and freed
+slotSets : Ledger → List ℕ → List (List ℕ)
+slotSets ledger [] = []
+slotSets ledger (s ∷ slots) = setsOf ledger s .taken ∷ setsOf ledger s .freed ∷ slotSets ledger slots
+
+-- numbers, values, the allocated set, the blocks that an open finds, and the sets of some slots
+shown : List ℕ → Course → List (List ℕ)
+shown slots course =
+    course .numbers
+    ∷ course .values
+    ∷ course .world .ledger .allocated
+    ∷ allocatedBlocks 4 (openMemory (course .world .disk) .sam .words)
+    ∷ slotSets (course .world .ledger) slots
+
+after : List ℕ → List Call → List (List ℕ)
+after slots calls = shown slots (follow calls (record { world = begin (formatDisk (replicate diskWords 0) 4); numbers = []; values = [] }))
+
+-- ---- the histories
+
+-- n store calls
+storeCalls : ℕ → List Call
+storeCalls n = replicate n storeCall
+
+-- a list as the bench program lends it
+list : List ℕ
+list = replicate maxCount 0
+
+-- a slot starts, takes n blocks, precommits and commits
+grow : ℕ → ℕ → List Call
+grow s n = startCall s ∷ allocateCall s n list ∷ precommitCall s ∷ commitCall s ∷ []
+
+-- two log stores made: the commit is not yet durable, and slot 1 still holds what it took
+beforePoint : List Call
+beforePoint = openCall ∷ grow 1 2 ++ storeCalls 2
+
+-- the third store is the commit point: slot 1's blocks are allocated, and an open replays the log
+afterPoint : List Call
+afterPoint = beforePoint ++ storeCalls 1
+
+-- slot 1 gives back block 0 while slot 3 is open, slot 2 takes it again; then slot 3, which touched nothing, commits
+retaken : List Call
+retaken =
+    openCall
+    ∷ grow 1 2
+    ++ storeCalls 5
+    ++ startCall 3
+    ∷ startCall 1
+    ∷ deallocateCall 1 0
+    ∷ precommitCall 1
+    ∷ commitCall 1
+    ∷ storeCalls 5
+    ++ grow 2 1
+    ++ storeCalls 5
+    ++ precommitCall 3
+    ∷ commitCall 3
+    ∷ []
+
+-- an open in the middle of a commit, past its commit point; slot 2 then takes a block once the recovery is made
+reopened : List Call
+reopened = afterPoint ++ openCall ∷ storeCalls 2 ++ startCall 2 ∷ allocateCall 2 1 list ∷ []
+
+-- slot 7 takes two blocks into a list of three places that aren't zeros, and is refused a third one for a list of none
+borrowed : List Call
+borrowed = openCall ∷ startCall 7 ∷ allocateCall 7 2 (9 ∷ 8 ∷ 7 ∷ []) ∷ allocateCall 7 1 [] ∷ statusCall ∷ []
+
+-- and rolls back; slot 1 then takes the same blocks
+rolledBackThere : List Call
+rolledBackThere = borrowed ++ rollbackCall 7 ∷ startCall 1 ∷ allocateCall 1 3 list ∷ statusCall ∷ []
+
+-- a crash inside a recovery, after one of its two stores; the next open starts it again
+crashedTwice : List Call
+crashedTwice = afterPoint ++ crashCall ∷ openCall ∷ storeCalls 1 ++ crashCall ∷ statusCall ∷ openCall ∷ storeCalls 2 ++ statusCall ∷ []
+
+pub histories : List (List ℕ)
+histories =
+    after (1 ∷ []) beforePoint
+    ++ after (1 ∷ []) (beforePoint ++ crashCall ∷ [])
+    ++ after (1 ∷ []) afterPoint
+    ++ after (1 ∷ []) (afterPoint ++ crashCall ∷ [])
+    ++ after (1 ∷ 2 ∷ []) retaken
+    ++ after (1 ∷ 2 ∷ []) reopened
+    ++ after (7 ∷ []) borrowed
+    ++ after (1 ∷ 7 ∷ []) rolledBackThere
+    ++ after (1 ∷ []) crashedTwice
+
+pub expected : List (List ℕ)
+expected =
+    -- before the commit point
+    (0 ∷ 0 ∷ 0 ∷ 0 ∷ 0 ∷ 0 ∷ 0 ∷ [])
+    ∷ (0 ∷ 0 ∷ 0 ∷ 0 ∷ 5 ∷ 4 ∷ 3 ∷ [])
+    ∷ []
+    ∷ []
+    ∷ (0 ∷ 1 ∷ [])
+    ∷ []
+    -- and after a crash there
+    ∷ (0 ∷ 0 ∷ 0 ∷ 0 ∷ 0 ∷ 0 ∷ 0 ∷ 0 ∷ [])
+    ∷ (0 ∷ 0 ∷ 0 ∷ 0 ∷ 5 ∷ 4 ∷ 3 ∷ 0 ∷ [])
+    ∷ []
+    ∷ []
+    ∷ []
+    ∷ []
+    -- after the commit point
+    ∷ (0 ∷ 0 ∷ 0 ∷ 0 ∷ 0 ∷ 0 ∷ 0 ∷ 0 ∷ [])
+    ∷ (0 ∷ 0 ∷ 0 ∷ 0 ∷ 5 ∷ 4 ∷ 3 ∷ 2 ∷ [])
+    ∷ (0 ∷ 1 ∷ [])
+    ∷ (0 ∷ 1 ∷ [])
+    ∷ []
+    ∷ []
+    -- and after a crash there
+    ∷ (0 ∷ 0 ∷ 0 ∷ 0 ∷ 0 ∷ 0 ∷ 0 ∷ 0 ∷ 0 ∷ [])
+    ∷ (0 ∷ 0 ∷ 0 ∷ 0 ∷ 5 ∷ 4 ∷ 3 ∷ 2 ∷ 0 ∷ [])
+    ∷ (0 ∷ 1 ∷ [])
+    ∷ (0 ∷ 1 ∷ [])
+    ∷ []
+    ∷ []
+    -- freed by slot 1, retaken by slot 2
+    ∷ replicate 31 0
+    ∷ ((0 ∷ 0 ∷ 0 ∷ 0 ∷ 5 ∷ 4 ∷ 3 ∷ 2 ∷ 1 ∷ 0 ∷ []) ++ (0 ∷ 0 ∷ 0 ∷ 0 ∷ 5 ∷ 4 ∷ 3 ∷ 2 ∷ 1 ∷ 0 ∷ []) ++ (0 ∷ 0 ∷ 0 ∷ 5 ∷ 4 ∷ 3 ∷ 2 ∷ 1 ∷ 0 ∷ 0 ∷ 0 ∷ []))
+    ∷ (1 ∷ 0 ∷ [])
+    ∷ (0 ∷ 1 ∷ [])
+    ∷ []
+    ∷ []
+    ∷ []
+    ∷ []
+    -- opened in the middle of a commit
+    ∷ replicate 13 0
+    ∷ (0 ∷ 0 ∷ 0 ∷ 0 ∷ 5 ∷ 4 ∷ 3 ∷ 2 ∷ 2 ∷ 1 ∷ 0 ∷ 0 ∷ 2 ∷ [])
+    ∷ (0 ∷ 1 ∷ [])
+    ∷ (0 ∷ 1 ∷ [])
+    ∷ []
+    ∷ []
+    ∷ (2 ∷ [])
+    ∷ []
+    -- taken by slot 7; 16 for a list too short
+    ∷ (0 ∷ 0 ∷ 0 ∷ 16 ∷ 0 ∷ [])
+    ∷ (0 ∷ 0 ∷ 0 ∷ 0 ∷ 0 ∷ [])
+    ∷ []
+    ∷ []
+    ∷ (0 ∷ 1 ∷ [])
+    ∷ []
+    -- rolled back, and taken by slot 1
+    ∷ (0 ∷ 0 ∷ 0 ∷ 16 ∷ 0 ∷ 0 ∷ 0 ∷ 0 ∷ 0 ∷ [])
+    ∷ replicate 9 0
+    ∷ []
+    ∷ []
+    ∷ (0 ∷ 1 ∷ 2 ∷ [])
+    ∷ []
+    ∷ []
+    ∷ []
+    -- crashed inside a recovery; status is refused until the next open
+    ∷ (replicate 12 0 ++ (1 ∷ 0 ∷ 0 ∷ 0 ∷ 0 ∷ []))
+    ∷ (0 ∷ 0 ∷ 0 ∷ 0 ∷ 5 ∷ 4 ∷ 3 ∷ 2 ∷ 0 ∷ 2 ∷ 1 ∷ 0 ∷ 0 ∷ 2 ∷ 1 ∷ 0 ∷ 2 ∷ [])
+    ∷ (0 ∷ 1 ∷ [])
+    ∷ (0 ∷ 1 ∷ [])
+    ∷ []
+    ∷ []
+    ∷ []
+
+computed : sameRows histories expected ≡ true
+unfolding sameRows expected histories after shown slotSets follow beforePoint afterPoint retaken reopened borrowed rolledBackThere crashedTwice grow list storeCalls xor isSet bit wordOf wordsOf bitmapOf noBitsFrom scan from allocatedBlocks isAvailable availableBlocks member allBelow majority done granted due counted allocateError lowest taking allocateAnswer allocateMemory allocateList commitError committing commitAnswer commitMemory deallocateError freeing deallocateAnswer deallocateMemory formatError formatted formatAnswer formatDisk openError recoveryDue recoveryPending opened openAnswer openMemory precommitError precommitting precommitAnswer precommitMemory rollbackError rolledBackCom rolledBack rollbackAnswer rollbackMemory startError started startAnswer startMemory statusError statusCounts statusAnswer allocated activeSlots storeError stillDue advanced nextStored storeAnswer storeMemory storeDisk memoryInvalid diskLengthWrong diskBlocksWrong diskBitmapWrong diskLogWrong diskMismatched blocksOutOfRange isNothing nothingPending workPending slotOutOfRange slotActive slotInactive slotPrecommitted slotNotPrecommitted countOutOfRange listShort available tooFewAvailable blockOutOfRange blockFree blockFreeing committedSam entriesOf changedOf commitDue refreshed committed entriesIn logEntries entriesValid logValid durable dueStores entriesAgree recoveryMatches diskMatches firstOr first unlessRefused touched outcome storesDone storesDue oneMoreDone finished writes changesFrom logStores checkpointWith journalWith checkpointStores commitStores blocksInRange sameWords allSlots slotValid touches touchesAgree isQuiet pendingValid valid emptied hasWord wordsFrom setsWords without takes frees counts commits stores entered enter event made step run
+computed = refl
+
+pub worked : histories ≡ expected
+worked = rows-same histories expected computed
+
+-- ---- holders
+
+-- block 5 is allocated, and slots 0 and 7 have taken it; slot 3 has given back block 6, and slot 7 has taken block 1
+pub madeUp : Ledger
+madeUp =
+    let sets : List ℕ → List ℕ → Sets = λ taken freed. record { taken = taken; freed = freed } in
+    ledgerOf
+    (5 ∷ 2 ∷ [])
+    (sets (5 ∷ []) [] ∷ noSets ∷ noSets ∷ sets [] (6 ∷ []) ∷ noSets ∷ noSets ∷ noSets ∷ sets (1 ∷ 5 ∷ []) [] ∷ [])
+    none
+
+-- "A block's holders are A, if the block is in it, and each seat with the block in its taken."
+pub held : map (holders madeUp) (5 ∷ 2 ∷ 1 ∷ 6 ∷ []) ≡ 3 ∷ 1 ∷ 1 ∷ 0 ∷ []
+unfolding holders takers member madeUp
+held = refl
