@@ -20,11 +20,12 @@ use Rattle.model.specs.declared.memory.Pending.{Pending}
 use Rattle.model.specs.declared.memory.Memory.{Memory}
 use Rattle.model.specs.Memory.{idleSlot, slotAt, isActive, isPrecommitted, volumeWords}
 use Rattle.model.specs.Stores.{Store, changes, changesFrom}
-use Rattle.model.specs.Commit.{committedSam, entriesOf, changedOf}
+use Rattle.model.specs.Commit.{committedSam, entriesOf, changedOf, commitDue}
 use Rattle.model.specs.Valid.{sameWords, allSlots, isQuiet, pendingValid}
 use Rattle.validity.specs.Pending.{changedWords, commitValid}
 use Rattle.validity.proofs.Laws.Slots.{both, and-both, not-true-false, allSlots-at, allSlots-all}
 use Rattle.model.proofs.Laws.Shape.{Shaped}
+use Rattle.model.proofs.Laws.Committing.{commit-due as due-is}
 
 -- ---- a commit's test
 
@@ -76,6 +77,13 @@ commit-slot sam «com» done due e = ap (λ (slot : Slot). commitValid (slot .st
 
 -- ---- a commit in its memory
 
+-- the stores due of a commit that changes a word are 3·d + 2; for one that changes none, both tests are false
+same-due : (precommitted : Bool) (d due commit : ℕ) → (1 ≤ d → commit ≡ 3 * d + 2)
+    → (precommitted && leb 1 d && eqb due (3 * d + 2)) ≡ (precommitted && leb 1 d && eqb due commit)
+same-due true zero due commit e = refl
+same-due false zero due commit e = refl
+same-due precommitted (suc d) due commit e = ap (λ (n : ℕ). precommitted && leb 1 (suc d) && eqb due n) (sym (e (omega arith)))
+
 module _ (memory : Memory) (s : ℕ) (shape : Shaped memory) (most : memory .blocks ≤ 4096)
     (samNone : noBitsFrom (memory .blocks) (memory .sam .words) ≡ true)
     (comNone : noBitsFrom (memory .blocks) (memory .com .words) ≡ true)
@@ -98,12 +106,14 @@ module _ (memory : Memory) (s : ℕ) (shape : Shaped memory) (most : memory .blo
   unfolding commitValid pendingValid
   commit-valid done due =
       ap (λ (d : ℕ). isPrecommitted (slotAt memory s .state) && leb 1 d && eqb due (3 * d + 2) && ltb done due) (sym changed-words)
+      ∙ ap (λ (t : Bool). t && ltb done due)
+      (same-due (isPrecommitted (slotAt memory s .state)) (changedOf memory s) due (commitDue memory s) (due-is memory s))
 
 -- a slot number above 7 has no precommitted slot
 pub commit-past : (memory : Memory) (s done due : ℕ) → Shaped memory → slotCount ≤ s → false ≡ pendingValid memory (Pending.Commit s done due)
 unfolding pendingValid
 commit-past memory s done due shape l =
-    sym (ap (λ (t : Bool). t && leb 1 (changedOf memory s) && eqb due (3 * changedOf memory s + 2) && ltb done due) idle)
+    sym (ap (λ (t : Bool). t && leb 1 (changedOf memory s) && eqb due (commitDue memory s) && ltb done due) idle)
   where
     idle : isPrecommitted (slotAt memory s .state) ≡ false
     idle =
