@@ -3,7 +3,7 @@ use Prim.Native.Nat.{ℕ, _≤_, _<_}
 use mathlib.Core.Path.{_≡_, sym, ap, _∙_}
 use mathlib.Core.Bool.{Bool, true, false, not}
 use mathlib.Core.List.{List, [], _∷_, _++_}
-use borrow.Author.Tests.{le-leb, lt-leb, leb-false, not-false}
+use borrow.Author.Tests.{le-leb, lt-leb}
 use Rattle.bitmap.specs.Sizes.{slotCount}
 use Rattle.model.specs.declared.memory.Memory.{Memory}
 use Rattle.model.specs.declared.error.Error.the-variants.{MemoryInvalid, WorkPending, SlotRange, SlotIdle, SlotPrecommitted}
@@ -11,10 +11,12 @@ use Rattle.model.specs.Errors.{Cause, first, _⇒_}
 use Rattle.model.specs.Memory.{slotAt, isActive, isPrecommitted}
 use Rattle.model.specs.Valid.{valid}
 use Rattle.model.specs.Causes.{memoryInvalid, isNothing, nothingPending, workPending, slotOutOfRange, slotActive, slotInactive, slotPrecommitted}
+use Rattle.model.proofs.Laws.First.{cause-holds, cause-passed, none-holds, no-cause}
+use Rattle.model.proofs.Laws.Accepted.{Ready, ready-of}
 use Rattle.verdicts.specs.declared.verdict.Verdict.{Verdict}
 use Rattle.verdicts.specs.Verdicts.{verdict}
 use Rattle.verdicts.specs.Ready.{readyCauses, readyError, activeCauses, activeError, openSlotError}
-use Rattle.verdicts.proofs.Laws.Verdicts.{cause-holds, cause-passed, no-cause, none-holds, accepted-none, accepted-then}
+use Rattle.verdicts.proofs.Laws.Verdicts.{accepted-none, accepted-then}
 
 module _ (memory : Memory) (s : ℕ) where
   -- ---- 1, 8 and 10
@@ -66,22 +68,16 @@ module _ (memory : Memory) (s : ℕ) where
 
 -- ---- what acceptance tells
 
--- the memory is valid, and the slot is there
-pub record Ready (memory : Memory) (s : ℕ) : Type 0 where
-  pub is-valid : valid memory ≡ true
-  pub below : s < slotCount
-
 -- whatever is accepted after the causes of all six
-pub ready-of : (memory : Memory) (s : ℕ) (more : List Cause) → verdict (first (readyCauses memory s ++ more)) ≡ Verdict.Accepted → Ready memory s
-unfolding memoryInvalid slotOutOfRange
-ready-of memory s more e =
+pub ready-then : (memory : Memory) (s : ℕ) (more : List Cause) → verdict (first (readyCauses memory s ++ more)) ≡ Verdict.Accepted → Ready memory s
+ready-then memory s more e =
     let h1 = none-holds (memoryInvalid memory) MemoryInvalid _ (accepted-none _ e) in
     let h8 = none-holds (workPending memory) WorkPending _ (h1 .1) in
     let h10 = none-holds (slotOutOfRange s) SlotRange more (h8 .1) in
-    record { is-valid = not-false (valid memory) (h1 .0); below = leb-false slotCount s (h10 .0) }
+    ready-of memory s (h1 .0) (h8 .0) (h10 .0)
 
 pub active-ready : (memory : Memory) (s : ℕ) → verdict (activeError memory s) ≡ Verdict.Accepted → Ready memory s
-active-ready memory s e = ready-of memory s _ e
+active-ready memory s e = ready-then memory s _ e
 
 pub open-ready : (memory : Memory) (s : ℕ) → verdict (openSlotError memory s) ≡ Verdict.Accepted → Ready memory s
-open-ready memory s e = ready-of memory s _ e
+open-ready memory s e = ready-then memory s _ e

@@ -4,7 +4,7 @@ use mathlib.Core.List.{[]}
 use Rattle.model.specs.Memory.{isActive}
 use Rattle.verdicts.specs.Ready.{readyCauses}
 use Rattle.verdicts.proofs.Laws.Verdicts.{refused-then}
-use Rattle.verdicts.proofs.Laws.Ready.{ready-of, idle-refused, active-accepted}
+use Rattle.verdicts.proofs.Laws.Ready.{ready-then, idle-refused, active-accepted}
 use borrow.Author.Needs.{needs}
 use Rattle.verdicts.proofs.ready.ready_active.Statement.{statement}
 use Rattle.verdicts.proofs.ready.ready_active.Tie as tie
@@ -20,7 +20,7 @@ enum-told c = search needs
 
 slot-state-requires : tie.Need-slot-state-requires
 slot-state-requires c κs =
-    ready-of _ _ [] (sym (c .before .before .ready .ensures) ∙ c .enum-told .given .1) .below
+    ready-then _ _ [] (sym (c .before .before .ready .ensures) ∙ c .enum-told .given .1) .below
 
 is-active-requires : tie.Need-is-active-requires
 is-active-requires c κs = search needs
