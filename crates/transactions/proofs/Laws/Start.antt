@@ -10,11 +10,12 @@ use Rattle.model.specs.Errors.{Cause, _⇒_}
 use Rattle.model.specs.Memory.{slotAt, isActive}
 use Rattle.model.specs.Causes.{slotActive}
 use Rattle.model.specs.Calls.Start.{startError}
+use Rattle.model.proofs.Laws.First.{cause-holds, cause-passed, no-cause}
+use Rattle.model.proofs.Laws.Accepted.{Ready, start-accepted}
 use Rattle.verdicts.specs.declared.verdict.Verdict.{Verdict}
 use Rattle.verdicts.specs.Verdicts.{verdict}
 use Rattle.verdicts.specs.Ready.{readyCauses, readyError}
-use Rattle.verdicts.proofs.Laws.Verdicts.{cause-holds, cause-passed, no-cause, refused-then, accepted-then}
-use Rattle.verdicts.proofs.Laws.Ready.{Ready, ready-of}
+use Rattle.verdicts.proofs.Laws.Verdicts.{accepted-none, refused-then, accepted-then}
 
 module _ (memory : Memory) (s : ℕ) where
   -- the cause that start alone tests, 11
@@ -34,5 +35,4 @@ module _ (memory : Memory) (s : ℕ) where
   idle-accepted r e = ap verdict (sym (accepted-then (readyCauses memory s) causes r ∙ cause-passed (slotActive memory s) SlotBusy [] e ∙ no-cause))
 
   pub start-ready : verdict (startError memory s) ≡ Verdict.Accepted → Ready memory s
-  unfolding startError causes
-  start-ready e = ready-of memory s causes e
+  start-ready e = start-accepted memory s (accepted-none (startError memory s) e) .ready

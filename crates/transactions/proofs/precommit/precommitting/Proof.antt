@@ -2,7 +2,7 @@
 use mathlib.Core.Path.{ap, _∙_}
 use Rattle.model.specs.declared.memory.Slot.{Slot}
 use Rattle.model.specs.declared.memory.SlotState.the-variants.{Precommitted}
-use Rattle.model.specs.Memory.{slotOf, withSlot}
+use Rattle.model.specs.Memory.{withState, withSlot}
 use Rattle.model.specs.Calls.Precommit.{precommitting}
 use Rattle.model.proofs.Laws.Shape.{shaped, slot-read}
 use borrow.Author.Needs.{needs}
@@ -31,7 +31,7 @@ returns c =
     let a = b .args in
     ap (λ (slot : Slot). withSlot (a .t1) (a .slot) slot)
     (c .new .ensures
-    ∙ ap (λ (slot : Slot). slotOf Precommitted (slot .tam)) (slot-read (a .t1) _ (a .slot) (shaped (a .t1) _ (b .good .0)) (b .pre)))
+    ∙ ap (λ (slot : Slot). withState slot Precommitted) (slot-read (a .t1) _ (a .slot) (shaped (a .t1) _ (b .good .0)) (b .pre)))
 
 pub precommitting-spec : {M : Type 1} → statement M
 precommitting-spec =

@@ -2,7 +2,7 @@
 use mathlib.Core.Path.{sym, ap, _∙_}
 use mathlib.Core.List.{[]}
 use Rattle.model.specs.Memory.{isActive}
-use Rattle.verdicts.proofs.Laws.Ready.{ready-of}
+use Rattle.verdicts.proofs.Laws.Ready.{ready-then}
 use Rattle.transactions.proofs.Laws.Start.{unready-refused, busy-refused, idle-accepted}
 use borrow.Author.Needs.{needs}
 use Rattle.transactions.proofs.start.start_verdict.Statement.{statement}
@@ -19,7 +19,7 @@ enum-told c = search needs
 
 slot-state-requires : tie.Need-slot-state-requires
 slot-state-requires c κs =
-    ready-of _ _ [] (sym (c .before .before .ready .ensures) ∙ c .enum-told .given .1) .below
+    ready-then _ _ [] (sym (c .before .before .ready .ensures) ∙ c .enum-told .given .1) .below
 
 is-active-requires : tie.Need-is-active-requires
 is-active-requires c κs = search needs
