@@ -4,10 +4,9 @@ ghost use mathlib.Core.Bool.{true};
 ghost use Prim.Native.Nat.{_<_};
 ghost use Rattle.bitmap.specs.Sizes.{slotCount};
 ghost use Rattle.model.specs.Valid.{valid};
-ghost use Rattle.model.specs.Commit.{changedOf};
+ghost use Rattle.model.specs.Commit.{changedOf, commitDue};
 ghost use Rattle.model.specs.Calls.Committing.{
   commitError,
-  commitDue,
   committing,
   commitAnswer,
   commitMemory,

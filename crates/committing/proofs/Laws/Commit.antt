@@ -16,15 +16,17 @@ use Rattle.model.specs.Answers.{due}
 use Rattle.model.specs.Memory.{slotAt, isPrecommitted, withPending}
 use Rattle.model.specs.Causes.{slotPrecommitted, slotNotPrecommitted}
 use Rattle.model.specs.Stores.{changes}
-use Rattle.model.specs.Commit.{committedSam, entriesOf, changedOf, committed}
-use Rattle.model.specs.Calls.Committing.{commitError, commitDue, committing, commitAnswer, commitMemory}
+use Rattle.model.specs.Commit.{committedSam, entriesOf, changedOf, commitDue, committed}
+use Rattle.model.specs.Calls.Committing.{commitError, committing, commitAnswer, commitMemory}
 use Rattle.model.proofs.Laws.Shape.{Shaped}
-use Rattle.model.proofs.Laws.Entries.{changes-length, length-commitStores}
+use Rattle.model.proofs.Laws.Entries.{changes-length}
+use Rattle.model.proofs.Laws.First.{cause-holds, cause-passed, no-cause}
+use Rattle.model.proofs.Laws.Accepted.{Ready, commit-accepted}
+use Rattle.model.proofs.Laws.Committing.{commit-due}
 use Rattle.verdicts.specs.declared.verdict.Verdict.{Verdict}
 use Rattle.verdicts.specs.Verdicts.{verdict}
 use Rattle.verdicts.specs.Ready.{activeCauses, activeError}
-use Rattle.verdicts.proofs.Laws.Verdicts.{cause-holds, cause-passed, no-cause, accepted-none, refused-some, refused-then, accepted-then}
-use Rattle.verdicts.proofs.Laws.Ready.{Ready, ready-of}
+use Rattle.verdicts.proofs.Laws.Verdicts.{accepted-none, refused-some, refused-then, accepted-then}
 
 -- ---- its causes
 
@@ -46,8 +48,7 @@ module _ (memory : Memory) (s : ℕ) where
       ap verdict (sym (accepted-then (activeCauses memory s) _ r ∙ cause-passed (slotNotPrecommitted memory s) SlotNotPrecommitted [] (ap not e) ∙ no-cause))
 
   pub commit-ready : verdict (commitError memory s) ≡ Verdict.Accepted → Ready memory s
-  unfolding commitError
-  commit-ready e = ready-of memory s _ e
+  commit-ready e = commit-accepted memory s (accepted-none (commitError memory s) e) .ready
 
   -- ---- its answer
 
@@ -56,10 +57,10 @@ module _ (memory : Memory) (s : ℕ) where
   unfolding commitAnswer commitMemory due unlessRefused
   commit-refused error e = rw (refused-some (commitError memory s) error e) (refl, refl)
 
-  pub commit-accepted : verdict (commitError memory s) ≡ Verdict.Accepted
+  pub commit-done : verdict (commitError memory s) ≡ Verdict.Accepted
       → (StoresAnswer.Due (commitDue memory s) ≡ commitAnswer memory s) × (committing memory s ≡ commitMemory memory s)
   unfolding commitAnswer commitMemory due unlessRefused
-  commit-accepted e = rw (accepted-none (commitError memory s) e) (refl, refl)
+  commit-done e = rw (accepted-none (commitError memory s) e) (refl, refl)
 
 -- ---- its stores
 
@@ -81,8 +82,7 @@ module _ (memory : Memory) (s : ℕ) where
 
   -- "Otherwise that call answers 3·d + 2"
   pub some-due : (changedOf memory s ≡ 0 → ⊥) → 3 * changedOf memory s + 2 ≡ commitDue memory s
-  unfolding commitDue changedOf
-  some-due n = rw (ne-eqb (changedOf memory s) 0 n) (sym (length-commitStores (entriesOf memory s)))
+  some-due n = sym (commit-due memory s (omega (arith, n)))
 
   -- and its stores are pending
   pub some-pending : (changedOf memory s ≡ 0 → ⊥) → withPending memory (Commit s 0 (commitDue memory s)) ≡ committing memory s

@@ -15,7 +15,7 @@ use Rattle.bitmap.specs.declared.Bitmap.{Bitmap}
 use Rattle.model.specs.declared.memory.Slot.{Slot}
 use Rattle.model.specs.declared.memory.Pending.the-variants.{Nothing}
 use Rattle.model.specs.declared.memory.Memory.{Memory}
-use Rattle.model.specs.Memory.{bitmap, slotOf, slotAt, idleSlot, memoryOf, withSlot, withPending, isActive}
+use Rattle.model.specs.Memory.{bitmap, withTam, slotAt, idleSlot, withSam, withSlots, withSlot, withPending, isActive}
 use Rattle.model.specs.Commit.{committedSam, refreshed, committed}
 use Rattle.model.proofs.Laws.Shape.{Shaped, slot-read, empty-is}
 use Rattle.model.proofs.Laws.Valid.{ValidParts, slot-below, noBits-empty}
@@ -31,7 +31,7 @@ idle-stays old new slot e = rw e
 
 -- another takes the words of a refresh
 pub active-refreshed : (old new : List ℕ) (slot : Slot) (words : List ℕ) → isActive (slot .state) ≡ true → words ≡ zip3 refreshWord old new (slot .tam .words)
-    → slotOf (slot .state) (bitmap words) ≡ refreshedSlot old new slot
+    → withTam slot (bitmap words) ≡ refreshedSlot old new slot
 unfolding refreshedSlot
 active-refreshed old new slot words e made = rw (made, e)
 
@@ -42,7 +42,7 @@ refreshed-slot : (memory : Memory) (sam : Bitmap) (slot : Slot) → Shaped memor
     → refreshedSlot (memory .sam .words) (sam .words) slot ≡ refreshed memory sam slot
 unfolding refreshedSlot refreshed
 refreshed-slot memory sam slot shape parts is below slot-is slot-end =
-    ap (λ (words : List ℕ). cond (isActive (slot .state)) (slotOf (slot .state) (bitmap words)) slot)
+    ap (λ (words : List ℕ). cond (isActive (slot .state)) (withTam slot (bitmap words)) slot)
     (refresh-bitmap (memory .blocks) (parts .few-blocks) (memory .sam .words) (sam .words) (slot .tam .words) (shape .sam) is slot-is
     (parts .sam-below) below slot-end)
 
@@ -56,11 +56,10 @@ refreshed-idle memory sam = refl
 -- with the new SAM, the slot idle, and the first t slots refreshed
 abbrev pub halfway : Memory → ℕ → ℕ → Memory
 halfway memory s t =
-    memoryOf
-    (memory .blocks)
-    (committedSam memory s)
-    (memory .com)
-    (mapFirst (refreshed memory (committedSam memory s)) t (set (memory .slots) s idleSlot))
+    withPending
+    (withSlots
+    (withSam memory (committedSam memory s))
+    (mapFirst (refreshed memory (committedSam memory s)) t (set (memory .slots) s idleSlot)))
     Nothing
 
 module _ (memory : Memory) (s : ℕ) (shape : Shaped memory) (parts : ValidParts memory) where
@@ -105,11 +104,11 @@ module _ (memory : Memory) (s : ℕ) (shape : Shaped memory) (parts : ValidParts
   -- none is refreshed at first
   pub halfway-none : (next : Memory) (sam : Bitmap) (slot : Slot) → next ≡ withPending memory Nothing
       → sam .words ≡ committedSam memory s .words → slot ≡ idleSlot
-      → memoryOf (next .blocks) sam (next .com) (set (next .slots) s slot) (next .pending) ≡ halfway memory s 0
+      → withSlot (withSam next sam) s slot ≡ halfway memory s 0
   unfolding mapFirst
   halfway-none next sam slot same made idle =
-      ap (λ (memory : Memory). memoryOf (memory .blocks) sam (memory .com) (set (memory .slots) s slot) (memory .pending)) same
-      ∙ ap₂ (λ (words : List ℕ) (slot : Slot). memoryOf (memory .blocks) (bitmap words) (memory .com) (set (memory .slots) s slot) Nothing) made idle
+      ap (λ (memory : Memory). withSlot (withSam memory sam) s slot) same
+      ∙ ap₂ (λ (words : List ℕ) (slot : Slot). withPending (withSlot (withSam memory (bitmap words)) s slot) Nothing) made idle
 
   module _ (t : ℕ) (in-range : t < 8) (d : Slot) (next : Memory) (so : next ≡ halfway memory s t) where
     -- the slot that is read next is the memory's, or the idle one
@@ -136,7 +135,7 @@ module _ (memory : Memory) (s : ℕ) (shape : Shaped memory) (parts : ValidParts
         → withSlot next t slot ≡ halfway memory s (t + 1)
     halfway-step new slot made e =
         ap₂ (λ (next : Memory) (slot : Slot). withSlot next t slot) so (e ∙ refreshed-next new made)
-        ∙ ap (λ (slots : List Slot). memoryOf (memory .blocks) (committedSam memory s) (memory .com) slots Nothing)
+        ∙ ap (λ (slots : List Slot). withPending (withSlots (withSam memory (committedSam memory s)) slots) Nothing)
         (mapFirst-step (refreshed memory (committedSam memory s)) t (set (memory .slots) s idleSlot) idleSlot (omega (arith, emptied .slots))
         ∙ ap (λ (n : ℕ). mapFirst (refreshed memory (committedSam memory s)) n (set (memory .slots) s idleSlot)) (sym (add-one t)))
 
@@ -144,7 +143,7 @@ module _ (memory : Memory) (s : ℕ) (shape : Shaped memory) (parts : ValidParts
   pub halfway-all : (t : ℕ) → 8 ≤ t → halfway memory s t ≡ committed memory s
   unfolding committed
   halfway-all t l =
-      ap (λ (slots : List Slot). memoryOf (memory .blocks) (committedSam memory s) (memory .com) slots Nothing)
+      ap (λ (slots : List Slot). withPending (withSlots (withSam memory (committedSam memory s)) slots) Nothing)
       (mapFirst-all (refreshed memory (committedSam memory s)) t (set (memory .slots) s idleSlot) (omega (arith, emptied .slots))
       ∙ map-set (refreshed memory (committedSam memory s)) (memory .slots) s idleSlot
       ∙ ap (set (map (refreshed memory (committedSam memory s)) (memory .slots)) s) (refreshed-idle memory (committedSam memory s)))

@@ -1,6 +1,6 @@
 -- Refused, the memory is as it was; accepted, all is `committing`'s.
 use mathlib.Core.Path.{sym, _∙_}
-use Rattle.committing.proofs.Laws.Commit.{commit-ready, commit-refused, commit-accepted}
+use Rattle.committing.proofs.Laws.Commit.{commit-ready, commit-refused, commit-done}
 use borrow.Author.Needs.{needs}
 use Rattle.committing.proofs.commit.commit.Statement.{statement}
 use Rattle.committing.proofs.commit.commit.Tie as tie
@@ -24,7 +24,7 @@ returns c = commit-refused _ _ _ (sym (c .before .before .before .commit-verdict
 
 returns-2 : tie.Need-returns-2
 returns-2 c =
-    let a = commit-accepted _ _ (sym (c .before .before .before .commit-verdict .ensures) ∙ c .before .enum-told .given .1) in
+    let a = commit-done _ _ (sym (c .before .before .before .commit-verdict .ensures) ∙ c .before .enum-told .given .1) in
     (c .committing .ensures .0 ∙ a .0, c .committing .ensures .1 ∙ a .1)
 
 pub commit-spec : {M : Type 1} → statement M
