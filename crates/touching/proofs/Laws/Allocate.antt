@@ -3,12 +3,11 @@ use Prim.Native.Nat.{ℕ, _≤_, _<_}
 use native.Mathlib.Omega.{arith}
 use mathlib.Core.Path.{_≡_, refl, sym, ap, ap₂, _∙_}
 use mathlib.Core.Bool.{Bool, not, _&&_}
-use mathlib.Core.Option.{none}
 use mathlib.Core.List.{List, [], _∷_, _++_}
-use lib.ListN.{length, getD, set, take, drop, List·getD-append}
+use lib.ListN.{length, getD, take, drop, List·getD-append}
 use lib.Seq.{length-take-le}
 use lib.Dec.{leb}
-use borrow.Author.Tests.{le-leb, lt-leb, lt-ltb, le-ltb, leb-true, ltb-false, not-false}
+use borrow.Author.Tests.{le-leb, lt-leb, lt-ltb, le-ltb}
 use Rattle.bitmap.specs.Sizes.{maxCount}
 use Rattle.available.specs.Take.{CanTake, Takes}
 use Rattle.model.specs.declared.error.Error.{Error}
@@ -18,18 +17,18 @@ use Rattle.model.specs.declared.memory.Slot.{Slot}
 use Rattle.model.specs.declared.memory.Memory.{Memory}
 use Rattle.model.specs.Errors.{first, _⇒_, unlessRefused}
 use Rattle.model.specs.Answers.{granted}
-use Rattle.model.specs.Memory.{bitmap, slotOf, slotAt, memoryOf}
+use Rattle.model.specs.Memory.{bitmap, slotAt, withCom, withSlot, withTam}
 use Rattle.model.specs.Causes.{countOutOfRange, listShort, available, tooFewAvailable}
 use Rattle.model.specs.Calls.Allocate.{allocateError, lowest, taking, allocateAnswer, allocateMemory, allocateList}
 use Rattle.model.proofs.Laws.Shape.{Shaped}
 use Rattle.model.proofs.Laws.Valid.{ValidParts, slot-below}
-use Rattle.model.proofs.Laws.Writes.{and-first}
+use Rattle.model.proofs.Laws.First.{cause-holds, cause-passed, no-cause}
+use Rattle.model.proofs.Laws.Accepted.{AllocateAccepted}
 use Rattle.verdicts.specs.declared.verdict.Verdict.{Verdict}
 use Rattle.verdicts.specs.Verdicts.{verdict}
 use Rattle.verdicts.specs.Ready.{openSlotCauses, openSlotError}
 use Rattle.touching.specs.Allocate.{countCauses, countError}
-use Rattle.verdicts.proofs.Laws.Verdicts.{cause-holds, cause-passed, no-cause, none-holds, none-rest, accepted-none, refused-some, refused-then, accepted-then}
-use Rattle.verdicts.proofs.Laws.Ready.{Ready, ready-of}
+use Rattle.verdicts.proofs.Laws.Verdicts.{accepted-none, refused-some, refused-then, accepted-then}
 
 -- ---- causes 15, 16 and 17
 
@@ -74,13 +73,6 @@ module _ (memory : Memory) (count : ℕ) (list : List ℕ) where
 
 -- ---- all of its causes
 
--- what acceptance tells
-pub record CanAllocate (memory : Memory) (s count : ℕ) (list : List ℕ) : Type 0 where
-  pub ready : Ready memory s
-  pub some : 1 ≤ count
-  pub room : count ≤ length list
-  pub enough : count ≤ length (available memory)
-
 module _ (memory : Memory) (s count : ℕ) (list : List ℕ) where
   pub early-refused : (error : Error) → verdict (openSlotError memory s) ≡ Verdict.Refused error → Verdict.Refused error ≡ verdict (allocateError memory s count list)
   unfolding allocateError
@@ -90,20 +82,6 @@ module _ (memory : Memory) (s count : ℕ) (list : List ℕ) where
   unfolding allocateError
   count-decides e = sym (accepted-then (openSlotCauses memory s) (countCauses memory count list) e)
 
-  pub can-allocate : verdict (allocateError memory s count list) ≡ Verdict.Accepted → CanAllocate memory s count list
-  unfolding allocateError countOutOfRange listShort tooFewAvailable
-  can-allocate e =
-      let rest : countError memory count list ≡ none = none-rest (openSlotCauses memory s) (countCauses memory count list) (accepted-none _ e) in
-      let h15 = none-holds (countOutOfRange count) CountRange _ rest in
-      let h16 = none-holds (listShort list count) ListShort _ (h15 .1) in
-      let h17 = none-holds (tooFewAvailable memory count) TooFewAvailable [] (h16 .1) in
-      record {
-        ready = ready-of memory s _ e;
-        some = leb-true 1 count (and-first (leb 1 count) (leb count maxCount) (not-false _ (h15 .0)));
-        room = ltb-false (length list) count (h16 .0);
-        enough = ltb-false (length (available memory)) count (h17 .0);
-      }
-
   -- ---- its answer
 
   pub allocate-refused : (error : Error) → verdict (allocateError memory s count list) ≡ Verdict.Refused error
@@ -112,14 +90,14 @@ module _ (memory : Memory) (s count : ℕ) (list : List ℕ) where
   unfolding allocateAnswer allocateMemory allocateList granted unlessRefused
   allocate-refused error e = rw (refused-some (allocateError memory s count list) error e) (refl, (refl, refl))
 
-  pub allocate-accepted : verdict (allocateError memory s count list) ≡ Verdict.Accepted
+  pub allocate-done : verdict (allocateError memory s count list) ≡ Verdict.Accepted
       → (GrantAnswer.First (getD (lowest memory count) 0 0) ≡ allocateAnswer memory s count list)
       × ((taking memory s (lowest memory count) ≡ allocateMemory memory s count list) × (lowest memory count ++ drop count list ≡ allocateList memory s count list))
   unfolding allocateAnswer allocateMemory allocateList granted unlessRefused
-  allocate-accepted e = rw (accepted-none (allocateError memory s count list) e) (refl, (refl, refl))
+  allocate-done e = rw (accepted-none (allocateError memory s count list) e) (refl, (refl, refl))
 
   -- the first block stands first in the list
-  pub first-listed : CanAllocate memory s count list → (after : List ℕ) → after ≡ lowest memory count ++ drop count list → getD after 0 0 ≡ getD (lowest memory count) 0 0
+  pub first-listed : AllocateAccepted memory s count list → (after : List ℕ) → after ≡ lowest memory count ++ drop count list → getD after 0 0 ≡ getD (lowest memory count) 0 0
   unfolding lowest
   first-listed g after e =
       ap (λ (l : List ℕ). getD l 0 0) e
@@ -148,7 +126,7 @@ module _ (memory : Memory) (s count : ℕ) (list : List ℕ) (own : Slot) (read 
 
   module _ («com» tam after : List ℕ) (t : Takes (memory .blocks) count (memory .sam .words) (memory .com .words) (own .tam .words) list «com» tam after) where
     -- the memory with the blocks at 1 in COM and in the slot's TAM
-    pub took : memoryOf (memory .blocks) (memory .sam) (bitmap «com») (set (memory .slots) s (slotOf (own .state) (bitmap tam))) (memory .pending)
+    pub took : withSlot (withCom memory (bitmap «com»)) s (withTam own (bitmap tam))
         ≡ taking memory s (lowest memory count)
     unfolding taking lowest available
     took = rw (t .inCom, t .inTam, read)

@@ -3,9 +3,8 @@ use Prim.Native.Nat.{ℕ, _≤_, _<_}
 use native.Mathlib.Omega.{arith}
 use mathlib.Core.Path.{_≡_, sym, ap, ap₂, _∙_}
 use mathlib.Core.Bool.{true, false, not, _&&_}
-use mathlib.Core.Option.{none}
 use mathlib.Core.List.{[], _∷_}
-use borrow.Author.Tests.{le-leb, lt-leb, leb-false}
+use borrow.Author.Tests.{le-leb, lt-leb}
 use lib.Dec.{eqb}
 use Rattle.bitmap.specs.Bits.{bitmapOf}
 use Rattle.model.specs.declared.memory.Memory.{Memory}
@@ -16,6 +15,7 @@ use Rattle.model.specs.Memory.{slotAt, samBit, comBit, tamBit}
 use Rattle.model.specs.Valid.{valid}
 use Rattle.model.specs.Causes.{blockOutOfRange, blockFree, blockFreeing}
 use Rattle.model.specs.Calls.Deallocate.{deallocateError}
+use Rattle.model.proofs.Laws.First.{cause-holds, cause-passed, no-cause}
 use Rattle.model.proofs.Laws.Shape.{Shaped}
 use Rattle.model.proofs.Laws.Valid.{ValidParts, valid-parts, slot-below}
 use Rattle.bitops.specs.Block.{clearBit}
@@ -24,8 +24,7 @@ use Rattle.verdicts.specs.declared.verdict.Verdict.{Verdict}
 use Rattle.verdicts.specs.Verdicts.{verdict}
 use Rattle.verdicts.specs.Ready.{openSlotCauses, openSlotError}
 use Rattle.touching.specs.Deallocate.{blockCauses, blockError}
-use Rattle.verdicts.proofs.Laws.Verdicts.{cause-holds, cause-passed, no-cause, none-holds, none-rest, accepted-none, refused-then, accepted-then}
-use Rattle.verdicts.proofs.Laws.Ready.{Ready, ready-of}
+use Rattle.verdicts.proofs.Laws.Verdicts.{refused-then, accepted-then}
 
 -- ---- 18, 19 and 20
 
@@ -66,16 +65,6 @@ module _ (memory : Memory) (s b : ℕ) where
   pub block-decides : verdict (openSlotError memory s) ≡ Verdict.Accepted → blockError memory b ≡ deallocateError memory s b
   unfolding deallocateError
   block-decides e = sym (accepted-then (openSlotCauses memory s) (blockCauses memory b) e)
-
-  pub deallocate-ready : verdict (deallocateError memory s b) ≡ Verdict.Accepted → Ready memory s
-  unfolding deallocateError
-  deallocate-ready e = ready-of memory s _ e
-
-  pub block-below : verdict (deallocateError memory s b) ≡ Verdict.Accepted → b < memory .blocks
-  unfolding deallocateError blockOutOfRange
-  block-below e =
-      let block : blockError memory b ≡ none = none-rest (openSlotCauses memory s) (blockCauses memory b) (accepted-none _ e) in
-      leb-false (memory .blocks) b (none-holds (blockOutOfRange memory b) BlockRange _ block .0)
 
 -- ---- the bitmaps
 

@@ -2,7 +2,9 @@
 use native.Mathlib.Omega.{arith}
 use mathlib.Core.Path.{sym, ap, _∙_}
 use Rattle.model.specs.declared.answer.GrantAnswer.{GrantAnswer}
-use Rattle.touching.proofs.Laws.Allocate.{CanAllocate, can-allocate, allocate-refused, allocate-accepted, first-listed}
+use Rattle.model.proofs.Laws.Accepted.{AllocateAccepted, allocate-accepted}
+use Rattle.verdicts.proofs.Laws.Verdicts.{accepted-none}
+use Rattle.touching.proofs.Laws.Allocate.{allocate-refused, allocate-done, first-listed}
 use borrow.Author.Needs.{needs}
 use Rattle.touching.proofs.allocate.allocate.Statement.{statement}
 use Rattle.touching.proofs.allocate.allocate.Tie as tie
@@ -11,8 +13,8 @@ abbrev start : tie.After-enum-told → tie.Start
 start c = c .before .before .before .before .before
 
 -- what acceptance tells
-told : (c : tie.After-enum-told) → CanAllocate (start c .args .memory) (start c .args .slot) (start c .args .count) (start c .args .list .now)
-told c = can-allocate _ _ _ _ (sym (c .before .before .allocate-verdict .ensures) ∙ c .enum-told .given .1)
+told : (c : tie.After-enum-told) → AllocateAccepted (start c .args .memory) (start c .args .slot) (start c .args .count) (start c .args .list .now)
+told c = allocate-accepted _ _ _ _ (accepted-none _ (sym (c .before .before .allocate-verdict .ensures) ∙ c .enum-told .given .1))
 
 allocate-verdict-requires : tie.Need-allocate-verdict-requires
 allocate-verdict-requires c κs = search needs
@@ -46,7 +48,7 @@ returns-2 : tie.Need-returns-2
 returns-2 c =
     let t = c .before .before .before in
     let e = t .before .before in
-    let a = allocate-accepted _ _ _ _ (sym (e .before .before .allocate-verdict .ensures) ∙ e .enum-told .given .1) in
+    let a = allocate-done _ _ _ _ (sym (e .before .before .allocate-verdict .ensures) ∙ e .enum-told .given .1) in
     let block = ap GrantAnswer.First (first-listed _ _ _ _ (told e) _ (t .taking .ensures .1)) in
     (block ∙ a .0, (t .taking .ensures .0 ∙ a .1 .0, t .taking .ensures .1 ∙ a .1 .1))
 

@@ -1,8 +1,8 @@
 -- Refused, the memory is as it was; accepted, it is `freeing`'s.
 use mathlib.Core.Path.{sym, _∙_}
 use Rattle.model.specs.Calls.Deallocate.{deallocateError, freeing, deallocateAnswer, deallocateMemory}
-use Rattle.verdicts.proofs.Laws.Verdicts.{refused, accepted}
-use Rattle.touching.proofs.Laws.Deallocate.{deallocate-ready, block-below}
+use Rattle.model.proofs.Laws.Accepted.{deallocate-accepted}
+use Rattle.verdicts.proofs.Laws.Verdicts.{accepted-none, refused, accepted}
 use borrow.Author.Needs.{needs}
 use Rattle.touching.proofs.deallocate.deallocate.Statement.{statement}
 use Rattle.touching.proofs.deallocate.deallocate.Tie as tie
@@ -18,8 +18,8 @@ enum-told c = search needs
 
 freeing-requires : tie.Need-freeing-requires
 freeing-requires c κs =
-    let told = sym (c .before .before .deallocate-verdict .ensures) ∙ c .enum-told .given .1 in
-    (deallocate-ready _ _ _ told .is-valid, (deallocate-ready _ _ _ told .below, block-below _ _ _ told))
+    let a = deallocate-accepted _ _ _ (accepted-none _ (sym (c .before .before .deallocate-verdict .ensures) ∙ c .enum-told .given .1)) in
+    (a .ready .is-valid, (a .ready .below, a .block-below))
 
 returns : tie.Need-returns
 unfolding deallocateAnswer deallocateMemory

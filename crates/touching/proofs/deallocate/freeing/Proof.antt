@@ -3,7 +3,7 @@ use Prim.Native.Nat.{ℕ}
 use mathlib.Core.Path.{ap, ap₂, _∙_}
 use mathlib.Core.List.{List}
 use Rattle.model.specs.declared.memory.Slot.{Slot}
-use Rattle.model.specs.Memory.{bitmap, slotOf, withCom, withSlot}
+use Rattle.model.specs.Memory.{bitmap, withCom, withSlot, withTam}
 use Rattle.model.specs.Calls.Deallocate.{freeing}
 use Rattle.model.proofs.Laws.Shape.{shaped, slot-read}
 use Rattle.bitops.specs.Block.{clearBit}
@@ -41,7 +41,7 @@ returns c =
     let read = slot-read (a .t1) _ (a .slot) shape (b .pre .1 .0) in
     ap₂ (λ (words : List ℕ) (slot : Slot). withSlot (withCom (a .t1) (bitmap words)) (a .slot) slot)
     (c .before .before .before .clear .ensures ∙ cleared-com (a .t1) (a .slot) (a .block) shape (b .pre .0) (b .pre .1 .1))
-    (ap₂ (λ (slot : Slot) (words : List ℕ). slotOf (slot .state) (bitmap words)) read
+    (ap₂ (λ (slot : Slot) (words : List ℕ). withTam slot (bitmap words)) read
     (c .clear2 .ensures
     ∙ ap (λ (slot : Slot). clearBit (slot .tam .words) (a .block)) read
     ∙ cleared-tam (a .t1) (a .slot) (a .block) shape (b .pre .0) (b .pre .1 .1)))
