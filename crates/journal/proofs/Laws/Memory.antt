@@ -1,13 +1,9 @@
 -- What valid memory has, as the comparison with a disk and the stores need it.
 use Prim.Native.Nat.{ℕ, zero, suc, _+_, _-_, _*_, _≤_, _<_}
 use mathlib.Core.Path.{_≡_, refl, sym, ap, _∙_}
-use mathlib.Core.Bool.{true, _&&_, false≢true}
-use native.Mathlib.Omega.{arith}
-use native.Mathlib.Decide.{decLt}
-use lib.ListN.{length, getD, replicate, List·getD-eq-default}
+use mathlib.Core.Bool.{true}
+use lib.ListN.{getD, replicate}
 use lib.Pow.{pow-pos}
-use lib.Dec.{leb, ltb, eqb}
-use borrow.Author.Tests.{leb-true, ltb-true, eqb-true}
 use Rattle.bitmap.specs.Sizes.{slotCount}
 use Rattle.bitmap.specs.Bits.{noBitsFrom, IsBitmap}
 use Rattle.bitmap.proofs.Laws.Majority.{majorityWord}
@@ -16,13 +12,14 @@ use Rattle.bitops.proofs.Laws.Combine.{majority-bitmap}
 use Rattle.model.specs.declared.memory.Slot.{Slot}
 use Rattle.model.specs.declared.memory.Memory.{Memory}
 use Rattle.model.specs.declared.memory.Pending.the-variants.{Commit, Recovery}
-use Rattle.model.specs.Memory.{slotAt, idleSlot, isPrecommitted, volumeWords}
+use Rattle.model.specs.Memory.{slotAt, idleSlot}
 use Rattle.model.specs.Commit.{committedSam, changedOf}
-use Rattle.model.specs.Valid.{slotValid, pendingValid, isQuiet, valid}
-use Rattle.model.proofs.Laws.Writes.{and-first, and-second, words-same}
+use Rattle.model.specs.Valid.{slotValid, pendingValid, valid}
+use Rattle.model.proofs.Laws.Writes.{and-first, words-same}
 use Rattle.model.proofs.Laws.Entries.{noBits-cons}
 use Rattle.model.proofs.Laws.Valid.{ValidParts, valid-parts, allSlots-at}
 use Rattle.model.proofs.Laws.Shape.{Shaped, slot-read}
+use Rattle.model.proofs.Laws.Committing.{commit-parts, precommitted-below, recovery-parts}
 
 -- ---- the SAM of a commit
 
@@ -72,17 +69,6 @@ committed-words memory slot s p shape e =
 
 -- ---- pending work
 
--- a slot above 7 counts as idle
-precommitted-below : (memory : Memory) (s : ℕ) → length (memory .slots) ≡ slotCount → isPrecommitted (slotAt memory s .state) ≡ true → s < slotCount
-precommitted-below memory s l p = go (decLt s slotCount)
-  where
-    go : Dec (s < slotCount) → s < slotCount
-    go (yes h) = h
-    go (no h) =
-        absurd
-        (false≢true
-        (ap (λ (x : Slot). isPrecommitted (x .state)) (sym (List·getD-eq-default (memory .slots) idleSlot {n = s} (omega arith))) ∙ p))
-
 -- what a commit in hand of a valid memory has
 pub record CommitInHand (memory : Memory) (s done due : ℕ) : Type 0 where
   pub slot-below : s < slotCount
@@ -92,18 +78,13 @@ pub record CommitInHand (memory : Memory) (s done due : ℕ) : Type 0 where
 
 pub commit-in-hand : (memory : Memory) (s done due : ℕ) → valid memory ≡ true → Shaped memory
     → memory .pending ≡ Commit s done due → CommitInHand memory s done due
-unfolding pendingValid
 commit-in-hand memory s done due p shape e =
-    let v : pendingValid memory (Commit s done due) ≡ true = ap (pendingValid memory) (sym e) ∙ valid-parts memory p .pending-valid in
-    let d : ℕ = changedOf memory s in
-    let v2 = and-first _ (ltb done due) v in
-    let v1 = and-first _ (eqb due (3 * d + 2)) v2 in
-    let v0 = and-first _ (leb 1 d) v1 in
+    let c = commit-parts memory s done due (ap (pendingValid memory) (sym e) ∙ valid-parts memory p .pending-valid) in
     record {
-      slot-below = precommitted-below memory s (shape .slots) v0;
-      some = leb-true 1 d (and-second (isPrecommitted (slotAt memory s .state)) _ v1);
-      due-is = eqb-true due (3 * d + 2) (and-second (isPrecommitted (slotAt memory s .state) && leb 1 d) _ v2);
-      done-less = ltb-true done due (and-second (isPrecommitted (slotAt memory s .state) && leb 1 d && eqb due (3 * d + 2)) _ v);
+      slot-below = precommitted-below memory s (shape .slots) (c .precommitted);
+      some = c .some-changed;
+      due-is = c .due-is;
+      done-less = c .not-ended;
     }
 
 -- what a recovery of a valid memory has
@@ -112,12 +93,6 @@ pub record RecoveryInHand (done due : ℕ) : Type 0 where
   pub done-less : done < due
 
 pub recovery-in-hand : (memory : Memory) (done due : ℕ) → valid memory ≡ true → memory .pending ≡ Recovery done due → RecoveryInHand done due
-unfolding pendingValid
 recovery-in-hand memory done due p e =
-    let v : pendingValid memory (Recovery done due) ≡ true = ap (pendingValid memory) (sym e) ∙ valid-parts memory p .pending-valid in
-    let v2 = and-first _ (ltb done due) v in
-    let v1 = and-first _ (leb due (volumeWords memory + 1)) v2 in
-    record {
-      some = leb-true 2 due (and-second (isQuiet memory) _ v1);
-      done-less = ltb-true done due (and-second (isQuiet memory && leb 2 due && leb due (volumeWords memory + 1)) _ v);
-    }
+    let r = recovery-parts memory done due (ap (pendingValid memory) (sym e) ∙ valid-parts memory p .pending-valid) in
+    record { some = r .some-logged; done-less = r .not-ended }

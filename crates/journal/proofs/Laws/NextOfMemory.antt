@@ -14,7 +14,8 @@ use Rattle.model.specs.Commit.{committedSam, entriesOf, changedOf}
 use Rattle.model.specs.Valid.{valid}
 use Rattle.model.specs.Disk.{diskBlocks, logLength, logEntries, logValid, dueStores, diskMatches}
 use Rattle.model.specs.Causes.{isNothing, nothingPending}
-use Rattle.model.specs.Calls.Storing.{storesDone, nextStored}
+use Rattle.model.specs.Pending.{storesDone}
+use Rattle.model.specs.Calls.Storing.{nextStored}
 use Rattle.model.proofs.Laws.Writes.{and-first}
 use Rattle.model.proofs.Laws.Valid.{valid-parts}
 use Rattle.journal.specs.Next.{IsNext}

@@ -9,7 +9,7 @@ use lib.ListN.{length, getD, take, drop, length-drop, length-map}
 use lib.Seq.{take-append-le, drop-append-le, drop-append-add, drop-at}
 use lib.Dec.{eqb}
 use Rattle.model.specs.Sizes.{diskWords, lengthAt, bitmapAt, logAt}
-use Rattle.model.specs.Stores.{Store, _≔_, logStores, onDisk, checkpointStores, commitStores}
+use Rattle.model.specs.Stores.{Store, _≔_, logStores, onDisk, checkpointWith, journalWith, checkpointStores, commitStores}
 use Rattle.model.specs.Disk.{diskBlocks, logLength, logEntries, logValid}
 use Rattle.model.proofs.Laws.Entries.{length-logStores}
 use Rattle.journal.specs.Next.{IsNext}
@@ -42,13 +42,13 @@ first-there (suc n) (x ∷ es) e p = let h : n < length es = first-there n es e 
 -- a logged word
 pub checkpoint-word : (n : ℕ) (es : List Store) (e : Store) → take 1 (drop n es) ≡ e ∷ []
     → take 1 (drop n (checkpointStores es)) ≡ (bitmapAt + e .place) ≔ e .value ∷ []
-unfolding checkpointStores
+unfolding checkpointStores checkpointWith
 checkpoint-word n es e p =
     first-left n (map onDisk es) (lengthAt ≔ 0 ∷ []) (omega (arith, first-there n es e p, length-map es onDisk)) ∙ first-map n onDisk es e p
 
 -- word 1 to 0
 pub checkpoint-last : (n : ℕ) (es : List Store) → n ≡ length es → take 1 (drop n (checkpointStores es)) ≡ lengthAt ≔ 0 ∷ []
-unfolding checkpointStores
+unfolding checkpointStores checkpointWith
 checkpoint-last n es e = ap (take 1) (drop-at (map onDisk es) (lengthAt ≔ 0 ∷ []) n (length-map es onDisk ∙ sym e))
 
 -- ---- the stores of the log
@@ -76,18 +76,18 @@ module _ (es : List Store) where
   -- in the log: an entry's number, then its contents
   pub next-log : (done : ℕ) (e : Store) → take 1 (drop (done / 2) es) ≡ e ∷ []
       → take 1 (drop done (commitStores es)) ≡ (logAt + done) ≔ cond (eqb (done % 2) 0) (e .place) (e .value) ∷ []
-  unfolding commitStores
+  unfolding commitStores journalWith checkpointStores
   next-log done e p =
       first-left done (logStores logAt es) rest (omega (arith, first-there (done / 2) es e p, length-logStores logAt es)) ∙ log-word logAt done es e p
 
   -- the commit point
   pub next-point : (done : ℕ) → done ≡ 2 * length es → take 1 (drop done (commitStores es)) ≡ lengthAt ≔ length es ∷ []
-  unfolding commitStores
+  unfolding commitStores journalWith checkpointStores
   next-point done e = ap (take 1) (drop-at (logStores logAt es) rest done (length-logStores logAt es ∙ sym e))
 
   -- behind the commit point
   behind-point : (done i : ℕ) → done ≡ 2 * length es + 1 + i → drop done (commitStores es) ≡ drop i (checkpointStores es)
-  unfolding commitStores
+  unfolding commitStores journalWith checkpointStores
   behind-point done i e =
       let n : done ≡ length (logStores logAt es) + suc i = omega (arith, length-logStores logAt es) in
       ap (λ (k : ℕ). drop k (logStores logAt es ++ rest)) n ∙ drop-append-add (logStores logAt es) rest (suc i)
