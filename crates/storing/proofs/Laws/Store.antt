@@ -18,22 +18,26 @@ use Rattle.model.specs.Errors.{first, firstOr, unlessRefused}
 use Rattle.model.specs.Answers.{due}
 use Rattle.model.specs.Memory.{withPending}
 use Rattle.model.specs.Commit.{committed}
+use Rattle.model.specs.Pending.{storesDone, storesDue, oneMoreDone, finished}
 use Rattle.model.specs.Valid.{valid}
 use Rattle.model.specs.Disk.{diskMatches}
 use Rattle.model.specs.Causes.{memoryInvalid, diskLengthWrong, diskMismatched, isNothing, nothingPending}
 use Rattle.model.specs.Calls.Storing.{storeError, stillDue, advanced, nextStored, storeAnswer, storeMemory, storeDisk}
-use Rattle.model.proofs.Laws.DiskParts.{first-none}
-use borrow.Author.Tests.{not-false, eqb-true}
+use Rattle.model.proofs.Laws.Accepted.{accepted-store}
 
 -- the stores still due and the memory, by the pending work
-module _ (memory : Memory) (pending : Pending) where
-  pub nothing-left : pending ≡ Nothing → (StoresAnswer.Due 0 ≡ StoresAnswer.Due (stillDue pending)) × (memory ≡ advanced memory pending)
-  unfolding stillDue advanced
-  nothing-left e = (ap (λ (p : Pending). StoresAnswer.Due (stillDue p)) (sym e), ap (advanced memory) (sym e))
+pub nothing-left : (memory : Memory) → memory .pending ≡ Nothing
+    → (StoresAnswer.Due 0 ≡ StoresAnswer.Due (stillDue (memory .pending))) × (memory ≡ advanced memory (memory .pending))
+unfolding stillDue advanced storesDone storesDue oneMoreDone finished
+nothing-left memory e = (
+  ap (λ (p : Pending). StoresAnswer.Due (stillDue p)) (sym e),
+  ap (withPending memory) e ∙ ap (advanced memory) (sym e),
+)
 
+module _ (memory : Memory) (pending : Pending) where
   pub commit-last : (s k n : ℕ) → pending ≡ Commit s k n → k + 1 ≡ n
       → (StoresAnswer.Due 0 ≡ StoresAnswer.Due (stillDue pending)) × (committed memory s ≡ advanced memory pending)
-  unfolding stillDue advanced
+  unfolding stillDue advanced storesDone storesDue oneMoreDone finished
   commit-last s k n e q =
       let z : 0 ≡ n - (k + 1) = omega arith in (
         ap StoresAnswer.Due z ∙ ap (λ (p : Pending). StoresAnswer.Due (stillDue p)) (sym e),
@@ -42,7 +46,7 @@ module _ (memory : Memory) (pending : Pending) where
 
   pub commit-more : (s k n : ℕ) → pending ≡ Commit s k n → (k + 1 ≡ n → ⊥)
       → (StoresAnswer.Due (n - (k + 1)) ≡ StoresAnswer.Due (stillDue pending)) × (withPending memory (Commit s (k + 1) n) ≡ advanced memory pending)
-  unfolding stillDue advanced
+  unfolding stillDue advanced storesDone storesDue oneMoreDone finished
   commit-more s k n e q = (
     ap (λ (p : Pending). StoresAnswer.Due (stillDue p)) (sym e),
     ap (λ (t : Bool). cond t (committed memory s) (withPending memory (Commit s (k + 1) n))) (sym (ne-eqb (k + 1) n q)) ∙ ap (advanced memory) (sym e),
@@ -50,7 +54,7 @@ module _ (memory : Memory) (pending : Pending) where
 
   pub recovery-last : (k n : ℕ) → pending ≡ Recovery k n → k + 1 ≡ n
       → (StoresAnswer.Due 0 ≡ StoresAnswer.Due (stillDue pending)) × (withPending memory Nothing ≡ advanced memory pending)
-  unfolding stillDue advanced
+  unfolding stillDue advanced storesDone storesDue oneMoreDone finished
   recovery-last k n e q =
       let z : 0 ≡ n - (k + 1) = omega arith in (
         ap StoresAnswer.Due z ∙ ap (λ (p : Pending). StoresAnswer.Due (stillDue p)) (sym e),
@@ -59,7 +63,7 @@ module _ (memory : Memory) (pending : Pending) where
 
   pub recovery-more : (k n : ℕ) → pending ≡ Recovery k n → (k + 1 ≡ n → ⊥)
       → (StoresAnswer.Due (n - (k + 1)) ≡ StoresAnswer.Due (stillDue pending)) × (withPending memory (Recovery (k + 1) n) ≡ advanced memory pending)
-  unfolding stillDue advanced
+  unfolding stillDue advanced storesDone storesDue oneMoreDone finished
   recovery-more k n e q = (
     ap (λ (p : Pending). StoresAnswer.Due (stillDue p)) (sym e),
     ap (λ (t : Bool). cond t (withPending memory Nothing) (withPending memory (Recovery (k + 1) n))) (sym (ne-eqb (k + 1) n q)) ∙ ap (advanced memory) (sym e),
@@ -84,26 +88,7 @@ module _ (memory : Memory) (disk : List ℕ) where
   idle e l f g = rw (e, eq-eqb (length disk) 386 l, f, g)
 
   pub none-holds : valid memory ≡ true → length disk ≡ 386 → diskMatches memory disk (memory .pending) ≡ true → isNothing (memory .pending) ≡ false → storeError memory disk ≡ none
-  unfolding storeError first firstOr memoryInvalid diskLengthWrong diskMismatched nothingPending
-  none-holds e l f g = rw (e, eq-eqb (length disk) 386 l, f, g)
-
-  -- what an accepted store may rely on
-  pub record Ready : Type 0 where
-    pub is-valid : valid memory ≡ true
-    pub size : length disk ≡ 386
-    pub matching : diskMatches memory disk (memory .pending) ≡ true
-    pub something : nothingPending memory ≡ false
-
-  pub ready : storeError memory disk ≡ none → Ready
-  unfolding storeError memoryInvalid diskLengthWrong diskMismatched
-  ready e =
-      let n = first-none _ e in
-      record {
-        is-valid = not-false (valid memory) (n .0);
-        size = eqb-true (length disk) 386 (not-false (eqb (length disk) 386) (n .1 .0));
-        matching = not-false (diskMatches memory disk (memory .pending)) (n .1 .1 .0);
-        something = n .1 .1 .1 .0;
-      }
+  none-holds e l f g = accepted-store memory disk (record { is-valid = e; size = l; matches = f; pending = g })
 
   pub refused : (error : Error) → storeError memory disk ≡ some error
       → (StoresAnswer.Refused error ≡ storeAnswer memory disk) × ((memory ≡ storeMemory memory disk) × (disk ≡ storeDisk memory disk))

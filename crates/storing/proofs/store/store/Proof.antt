@@ -1,7 +1,9 @@
 -- Refused, all stays; accepted, the next store is made and the memory goes on.
 use mathlib.Core.Path.{sym, _∙_}
+use Rattle.model.specs.Causes.{nothingPending}
+use Rattle.model.proofs.Laws.Accepted.{store-accepted}
 use Rattle.verdicts.proofs.Laws.Verdicts.{refused-some, accepted-none}
-use Rattle.storing.proofs.Laws.Store.{ready, refused, accepted}
+use Rattle.storing.proofs.Laws.Store.{refused, accepted}
 use borrow.Author.Needs.{needs}
 use Rattle.storing.proofs.store.store.Statement.{statement}
 use Rattle.storing.proofs.store.store.Tie as tie
@@ -16,13 +18,14 @@ enum-told : tie.Need-enum-told
 enum-told c = search needs
 
 store-next-requires : tie.Need-store-next-requires
+unfolding nothingPending
 store-next-requires c κs = let q = accepted-none _ (sym (sym (c .before .enum-told .given .1) ∙ c .before .before .before .store-verdict .ensures)) in
-    let r = ready _ _ q in
-    (r .size, (r .is-valid, (r .matching, r .something)))
+    let r = store-accepted _ _ q in
+    (r .size, (r .is-valid, (r .matches, r .pending)))
 
 stored-requires : tie.Need-stored-requires
 stored-requires c κs = let e = c .before .before .before .before in
-    ready _ _ (accepted-none _ (sym (sym (e .enum-told .given .1) ∙ e .before .before .store-verdict .ensures))) .is-valid
+    store-accepted _ _ (accepted-none _ (sym (sym (e .enum-told .given .1) ∙ e .before .before .store-verdict .ensures))) .is-valid
 
 same-length : tie.Need-same-length
 same-length c = search needs

@@ -20,7 +20,7 @@ recovery-stored-requires : tie.Need-recovery-stored-requires
 recovery-stored-requires c κs = search needs
 
 returns : tie.Need-returns
-returns c = nothing-left _ _ (c .enum-told .given .1)
+returns c = nothing-left _ (c .enum-told .given .1)
 
 returns-2 : tie.Need-returns-2
 returns-2 c = search needs
