@@ -3,6 +3,7 @@ use mathlib.Core.Path.{ap, ap₂, _∙_}
 use Rattle.model.specs.declared.memory.Memory.{Memory}
 use Rattle.model.specs.declared.answer.GrantAnswer.{GrantAnswer}
 use Rattle.model.specs.Answers.{grantNumber, grantValue}
+use Rattle.model.specs.Outcome.{outcome}
 use Rattle.model.specs.Bench.{benchOf, benchCall}
 use Rattle.bench_step.specs.declared.next.Next.{Next}
 use Rattle.bench_step.specs.Next.{withDisk}
@@ -20,7 +21,7 @@ granted-requires : tie.Need-granted-requires
 granted-requires c κs = search needs
 
 returns : tie.Need-returns
-unfolding benchCall
+unfolding benchCall outcome
 returns c = λ disk.
     let a = c .before .before .before .before .args in
     let g = c .before .before .allocate .ensures in

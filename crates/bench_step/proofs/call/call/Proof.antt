@@ -6,6 +6,7 @@ use denote.Ref.{now}
 use Rattle.model.specs.declared.line.Op.{Op}
 use Rattle.model.specs.Answers.{storesNumber, storesValue}
 use Rattle.model.specs.Calls.Storing.{storeAnswer, storeMemory}
+use Rattle.model.specs.Outcome.{outcome}
 use Rattle.model.specs.Bench.{benchOf, benchCall}
 use Rattle.bench_step.specs.declared.next.Next.{Next}
 use Rattle.bench_step.specs.Next.{withDisk}
@@ -108,7 +109,7 @@ same-length : tie.Need-same-length
 same-length c = search needs
 
 returns : tie.Need-returns
-unfolding benchCall
+unfolding benchCall outcome
 returns c =
     let a = c .before .before .before .before .before .before .before .before .args in
     c .before .before .format-call .ensures
@@ -118,49 +119,49 @@ same-length-2 : tie.Need-same-length-2
 same-length-2 c = search needs
 
 returns-2 : tie.Need-returns-2
-unfolding benchCall
+unfolding benchCall outcome
 returns-2 c =
     let a = c .before .before .before .before .before .before .args in
     c .open-call .ensures
     ∙ ap (λ (o : Op). benchCall o (a .slot) (a .n) (a .memory) (now (a .disk))) (sym (c .before .before .enum-told2 .given .1))
 
 returns-3 : tie.Need-returns-3
-unfolding benchCall
+unfolding benchCall outcome
 returns-3 c =
     let a = c .before .before .before .before .before .before .args in
     changed-call _ _ _ (now (a .disk)) (c .before .start .ensures .1) _ _ (c .changed .ensures) (c .before .start .ensures .0)
     ∙ ap (λ (o : Op). benchCall o (a .slot) (a .n) (a .memory) (now (a .disk))) (sym (c .before .before .enum-told3 .given .1))
 
 returns-4 : tie.Need-returns-4
-unfolding benchCall
+unfolding benchCall outcome
 returns-4 c =
     let a = c .before .before .before .before .before .args in
     c .allocate-call .ensures (now (a .disk))
     ∙ ap (λ (o : Op). benchCall o (a .slot) (a .n) (a .memory) (now (a .disk))) (sym (c .before .enum-told4 .given .1))
 
 returns-5 : tie.Need-returns-5
-unfolding benchCall
+unfolding benchCall outcome
 returns-5 c =
     let a = c .before .before .before .before .before .before .args in
     changed-call _ _ _ (now (a .disk)) (c .before .deallocate .ensures .1) _ _ (c .changed2 .ensures) (c .before .deallocate .ensures .0)
     ∙ ap (λ (o : Op). benchCall o (a .slot) (a .n) (a .memory) (now (a .disk))) (sym (c .before .before .enum-told5 .given .1))
 
 returns-6 : tie.Need-returns-6
-unfolding benchCall
+unfolding benchCall outcome
 returns-6 c =
     let a = c .before .before .before .before .before .before .args in
     changed-call _ _ _ (now (a .disk)) (c .before .precommit .ensures .1) _ _ (c .changed3 .ensures) (c .before .precommit .ensures .0)
     ∙ ap (λ (o : Op). benchCall o (a .slot) (a .n) (a .memory) (now (a .disk))) (sym (c .before .before .enum-told6 .given .1))
 
 returns-7 : tie.Need-returns-7
-unfolding benchCall
+unfolding benchCall outcome
 returns-7 c =
     let a = c .before .before .before .before .before .before .args in
     stored-call _ _ _ (now (a .disk)) (c .before .commit .ensures .1) _ _ (c .stored .ensures) (c .before .commit .ensures .0)
     ∙ ap (λ (o : Op). benchCall o (a .slot) (a .n) (a .memory) (now (a .disk))) (sym (c .before .before .enum-told7 .given .1))
 
 returns-8 : tie.Need-returns-8
-unfolding benchCall
+unfolding benchCall outcome
 returns-8 c =
     let a = c .before .before .before .before .before .before .args in
     changed-call _ _ _ (now (a .disk)) (c .before .rollback .ensures .1) _ _ (c .changed4 .ensures) (c .before .rollback .ensures .0)
@@ -170,7 +171,7 @@ same-length-3 : tie.Need-same-length-3
 same-length-3 c = search needs
 
 returns-9 : tie.Need-returns-9
-unfolding benchCall
+unfolding benchCall outcome
 returns-9 c =
     let a = c .before .before .before .before .before .before .before .before .before .args in
     stored-call _ _ _ _ (c .before .before .before .store .ensures .1 .0) _ _ (c .stored2 .ensures) (c .before .before .before .store .ensures .0)
@@ -178,14 +179,14 @@ returns-9 c =
     ∙ ap (λ (o : Op). benchCall o (a .slot) (a .n) (a .memory) (now (a .disk))) (sym (c .before .before .before .before .before .enum-told9 .given .1))
 
 returns-10 : tie.Need-returns-10
-unfolding benchCall
+unfolding benchCall outcome
 returns-10 c =
     let a = c .before .before .before .before .before .before .args in
     measured-call _ _ _ (now (a .disk)) (c .before .status .ensures .1) _ _ (c .measured .ensures) (c .before .status .ensures .0)
     ∙ ap (λ (o : Op). benchCall o (a .slot) (a .n) (a .memory) (now (a .disk))) (sym (c .before .before .enum-told10 .given .1))
 
 returns-11 : tie.Need-returns-11
-unfolding benchCall
+unfolding benchCall outcome
 returns-11 c =
     let a = c .before .before .before .before .before .args in
     ap (λ (next : Next). withDisk next (now (a .disk))) (c .crash-call .ensures)

@@ -3,6 +3,7 @@ use Prim.Native.Nat.{ℕ}
 use mathlib.Core.Path.{ap, ap₂, _∙_}
 use mathlib.Core.List.{List}
 use Rattle.model.specs.Answers.{doneNumber}
+use Rattle.model.specs.Outcome.{formatOutcome}
 use Rattle.model.specs.Bench.{benchOf, benchCall}
 use borrow.Author.Needs.{needs}
 use Rattle.bench_step.proofs.call.format_call.Statement.{statement}
@@ -18,7 +19,7 @@ same-length : tie.Need-same-length
 same-length c = search needs
 
 returns : tie.Need-returns
-unfolding benchCall
+unfolding benchCall formatOutcome
 returns c = let a = c .before .before .before .before .before .before .args in
     ap₂
     (λ (disk : List ℕ) (answer : ℕ). benchOf (a .memory) disk answer 0)
