@@ -14,7 +14,7 @@ use Rattle.bitmap.specs.Blocks.{member}
 use Rattle.bitmap.proofs.Laws.Bits.{word-of-bits}
 use Rattle.model.proofs.Laws.Commit.{same-or-not}
 use Rattle.model.proofs.Laws.Touches.{xor-self}
-use Rattle.model.specs.Stores.{changesFrom, changes}
+use Rattle.model.specs.Stores.{Store, _≔_, changesFrom, changes}
 use Rattle.crash_safety.specs.Ledger.{hasWord, wordsFrom}
 
 -- a block in the list, by its word
@@ -88,9 +88,10 @@ module _ (sam new blocks : List ℕ)
       ∙ step (eqb (getD sam k 0) (getD new k 0)) refl
       ∙ sym (ap₂ (λ (old other : List ℕ). length (changesFrom k old other)) (drop-cons sam k 0 (omega arith)) (drop-cons new k 0 (omega arith)))
     where
-      step : (t : Bool) → eqb (getD sam k 0) (getD new k 0) ≡ t
-          → cond (not t) 1 0 + length (changesFrom (suc k) (drop (suc k) sam) (drop (suc k) new))
-          ≡ length (cond t (changesFrom (suc k) (drop (suc k) sam) (drop (suc k) new)) (record { place = k; value = getD new k 0 } ∷ changesFrom (suc k) (drop (suc k) sam) (drop (suc k) new)))
+      rest : List Store
+      rest = changesFrom (suc k) (drop (suc k) sam) (drop (suc k) new)
+
+      step : (t : Bool) → eqb (getD sam k 0) (getD new k 0) ≡ t → cond (not t) 1 0 + length rest ≡ length (cond t rest (k ≔ getD new k 0 ∷ rest))
       step true e = omega arith
       step false e = omega arith
 

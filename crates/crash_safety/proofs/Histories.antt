@@ -6,7 +6,7 @@ use mathlib.Core.Bool.{true, xor}
 use mathlib.Core.Option.{none}
 use mathlib.Core.List.{List, [], _∷_, _++_, map}
 use lib.ListN.{replicate}
-use Rattle.bitmap.specs.Sizes.{maxCount, slotCount}
+use Rattle.bitmap.specs.Sizes.{maxCount}
 use Rattle.bitmap.specs.Bits.{isSet, bit, wordOf, wordsOf, bitmapOf, noBitsFrom}
 use Rattle.bitmap.specs.Blocks.{scan, from, allocatedBlocks, isAvailable, availableBlocks, member, allBelow}
 use Rattle.bitmap.specs.Majority.{majority}

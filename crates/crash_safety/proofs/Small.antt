@@ -28,7 +28,8 @@ set-small words place value v small k = go (ℕ-discrete k place)
     go : Dec (k ≡ place) → getD (set words place value) k 0 < 2 ^ wordBits
     go (yes e) =
         ⊎-elim
-        (λ (h : place < length words). subst (λ (n : ℕ). n < 2 ^ wordBits) (sym (ap (λ (x : ℕ). getD (set words place value) x 0) e ∙ getD-set-same words place value 0 h)) v)
+        (λ (h : place < length words).
+        subst (λ (n : ℕ). n < 2 ^ wordBits) (sym (ap (λ (x : ℕ). getD (set words place value) x 0) e ∙ getD-set-same words place value 0 h)) v)
         (λ (h : length words ≤ place). subst (λ (l : List ℕ). getD l k 0 < 2 ^ wordBits) (sym (set-out words place value h)) (small k))
         (below-or-from place (length words))
     go (no n) = subst (λ (x : ℕ). x < 2 ^ wordBits) (sym (getD-set-other words place k value 0 n)) (small k)
@@ -36,7 +37,8 @@ set-small words place value v small k = go (ℕ-discrete k place)
 pub writes-small : (stores : List Store) (words : List ℕ) → SmallStores stores → Small words → Small (writes stores words)
 unfolding writes
 writes-small [] words s small = small
-writes-small (store ∷ stores) words s small = writes-small stores (set words (store .place) (store .value)) (s .1) (set-small words (store .place) (store .value) (s .0) small)
+writes-small (store ∷ stores) words s small =
+    writes-small stores (set words (store .place) (store .value)) (s .1) (set-small words (store .place) (store .value) (s .0) small)
 
 pub take-small : (k : ℕ) (stores : List Store) → SmallStores stores → SmallStores (take k stores)
 take-small zero stores s = tt
@@ -119,4 +121,5 @@ log-entries-small disk small = entriesIn-small (logLength disk) (drop logAt disk
 pub durable-small : (disk : List ℕ) → Small disk → Small (durable disk)
 unfolding durable
 durable-small disk small =
-    writes-small (logEntries disk) (diskBitmap disk) (log-entries-small disk small) (small-take bitmapWords (drop bitmapAt disk) (small-drop bitmapAt disk small))
+    writes-small (logEntries disk) (diskBitmap disk) (log-entries-small disk small)
+    (small-take bitmapWords (drop bitmapAt disk) (small-drop bitmapAt disk small))

@@ -40,15 +40,13 @@ module _ (w : World) (k due : ℕ) (i : Invariant w)
     where
       go : Dec (logLength (w .disk) ≤ k) → (openError stored ≡ none) × ((b : ℕ) → bit (durable stored) b ≡ member b (w .ledger .allocated))
       go (yes h) =
-          let stands : durable (w .disk) ≡ diskBitmap (w .disk) = rewritten-durable closingStores (w .disk) (i .opens) (w .memory) k due h m in
-          (
+          let stands : durable (w .disk) ≡ diskBitmap (w .disk) = rewritten-durable closingStores (w .disk) (i .opens) (w .memory) k due h m in (
             closing-opens closingStores (w .disk) (i .opens) k h closes,
             λ b.
-            ap (λ (words : List ℕ). bit words b) (closing-durable closingStores (w .disk) (i .opens) k h closes stands ∙ sym stands) ∙ i .kept b,
+                ap (λ (words : List ℕ). bit words b) (closing-durable closingStores (w .disk) (i .opens) k h closes stands ∙ sym stands) ∙ i .kept b,
           )
       go (no n) =
-          let h : k < logLength (w .disk) = lt-of-not-le n in
-          (
+          let h : k < logLength (w .disk) = lt-of-not-le n in (
             checkpointed-opens closingStores (w .disk) (i .opens) k h,
             λ b. ap (λ (words : List ℕ). bit words b) (checkpointed-durable closingStores (w .disk) (i .opens) k h) ∙ i .kept b,
           )

@@ -16,6 +16,7 @@ use Rattle.model.specs.declared.memory.Memory.{Memory}
 use Rattle.model.specs.declared.memory.Slot.{Slot}
 use Rattle.bitmap.specs.Sizes.{maxBlocks}
 use Rattle.model.specs.Memory.{withCom, withSlot, idleSlot, isActive, samBit, tamBit}
+use Rattle.model.proofs.Laws.Fields.{slots-length}
 use Rattle.model.proofs.Laws.Accepted.{Ready}
 use Rattle.crash_safety.specs.Ledger.{Sets, noSets, Ledger, setsOf, withAllSets, withSets, holders}
 use Rattle.crash_safety.specs.World.{World, worldOf}
@@ -65,7 +66,7 @@ module _ (w : World) (s : ℕ) (i : Invariant w) (ready : Ready (w .memory) s) w
         slots = length-set (w .ledger .slots) s own ∙ i .slots;
         related = λ _. record {
           sam = related .sam;
-          slots = length-set (w .memory .slots) s slot ∙ related .slots;
+          slots = slots-length (w .memory) s slot ∙ related .slots;
           pending = subst (PendingTied memory ledger) (sym (ready .nothing-pending)) after;
         };
       }

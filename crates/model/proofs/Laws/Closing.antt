@@ -69,6 +69,9 @@ module _ (blocks : ℕ) (words : List ℕ) (fits : length words ≡ bitmapWords)
       After : Type 0
       After = Closed blocks word words log (writes stores (set (diskOf blocks word words log) (store .place) (store .value)))
 
+      new-log : List ℕ
+      new-log = set log (store .place - logAt) (store .value)
+
       at-word-one : (store .place ≡ lengthAt) × (lengthIn (store .value) ≡ 0)
           → Closed blocks (store .value) words log (writes stores (diskOf blocks (store .value) words log))
           → After
@@ -77,13 +80,18 @@ module _ (blocks : ℕ) (words : List ℕ) (fits : length words ≡ bitmapWords)
             word-one = d .word-one;
             rest = d .rest;
             is = ap (λ (n : ℕ). writes stores (set (diskOf blocks word words log) n (store .value))) (e .0) ∙ d .is;
-            told = inr (⊎-elim (λ (same : lengthIn (d .word-one) ≡ lengthIn (store .value)). same ∙ e .1) (λ (ended : lengthIn (d .word-one) ≡ 0). ended) (d .told));
+            told =
+                inr
+                (⊎-elim
+                (λ (same : lengthIn (d .word-one) ≡ lengthIn (store .value)). same ∙ e .1)
+                (λ (ended : lengthIn (d .word-one) ≡ 0). ended)
+                (d .told));
             log-kept = d .log-kept;
             size = d .size;
           }
 
       past-log : logEnd ≤ store .place
-          → Closed blocks word words (set log (store .place - logAt) (store .value)) (writes stores (diskOf blocks word words (set log (store .place - logAt) (store .value))))
+          → Closed blocks word words new-log (writes stores (diskOf blocks word words new-log))
           → After
       past-log h d =
           record {

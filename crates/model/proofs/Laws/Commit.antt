@@ -4,7 +4,7 @@ use native.Mathlib.Nat.{not-le-of-lt}
 use native.Mathlib.Omega.{arith}
 use mathlib.Core.Path.{_≡_, refl, sym, ap, ap₂, _∙_}
 use mathlib.Core.Logic.{⊎-elim}
-use mathlib.Core.Bool.{Bool, true, false, not, cond, xor, _&&_, false≢true}
+use mathlib.Core.Bool.{Bool, true, false, not, cond, xor, _&&_, false≢true, and-not-self}
 use Rattle.bitmap.specs.Bits.{bit}
 use Rattle.bitmap.specs.Majority.{majority}
 use Rattle.bitmap.proofs.Laws.Bits.{bit-below, bit-from, below-or-from, noBits-bit}
@@ -46,10 +46,13 @@ module _ (memory : Memory) (parts : ValidParts memory) where
       go : (t : Bool) → xor (samBit memory b) (comBit memory b) ≡ t → xor (samBit memory b) (comBit memory b) ≡ true
       go true p = p
       go false p =
-          absurd (not-le-of-lt (touches-one memory b (memory .slots) s e) (omega (arith, touches-at memory b (parts .touches-agree) h ∙ ap (λ (t : Bool). cond t 1 0) p)))
+          absurd
+          (not-le-of-lt (touches-one memory b (memory .slots) s e)
+          (omega (arith, touches-at memory b (parts .touches-agree) h ∙ ap (λ (t : Bool). cond t 1 0) p)))
 
   -- and no other active slot has touched it
-  pub touched-alone : (s t b : ℕ) → b < memory .blocks → (t ≡ s → ⊥) → touchesBlock memory (slotAt memory s) b ≡ true → touchesBlock memory (slotAt memory t) b ≡ false
+  pub touched-alone : (s t b : ℕ)
+      → b < memory .blocks → (t ≡ s → ⊥) → touchesBlock memory (slotAt memory s) b ≡ true → touchesBlock memory (slotAt memory t) b ≡ false
   touched-alone s t b h n e = go (touchesBlock memory (slotAt memory t) b) refl
     where
       once : (u : Bool) → cond u 1 0 ≤ 1
@@ -135,15 +138,11 @@ module _ (memory : Memory) (parts : ValidParts memory) where
       Kept : Type 0
       Kept = ((tam && not new) ≡ (old && not sam)) × ((new && not tam) ≡ (sam && not old))
 
-      none-either : (u : Bool) → (u && not u) ≡ false
-      none-either true = refl
-      none-either false = refl
-
       -- both new and old bits are the same for SAM and for the slot
       equal : (a x c y : Bool) → a ≡ x → c ≡ y → ((a && not x) ≡ (c && not y)) × ((x && not a) ≡ (y && not c))
       equal a x c y p q = (
-        ap (λ (u : Bool). u && not x) p ∙ none-either x ∙ sym (ap (λ (u : Bool). u && not y) q ∙ none-either y),
-        ap (λ (u : Bool). x && not u) p ∙ none-either x ∙ sym (ap (λ (u : Bool). y && not u) q ∙ none-either y),
+        ap (λ (u : Bool). u && not x) p ∙ and-not-self x ∙ sym (ap (λ (u : Bool). u && not y) q ∙ and-not-self y),
+        ap (λ (u : Bool). x && not u) p ∙ and-not-self x ∙ sym (ap (λ (u : Bool). y && not u) q ∙ and-not-self y),
       )
 
       go : b < memory .blocks → (u : Bool) → xor sam new ≡ u → Kept

@@ -60,14 +60,17 @@ module _ (blocks point : ℕ) (sam log : List ℕ) (closing es : List Store) (fr
       ∙ writes-log (blocks ∷ 0 ∷ sam) logAt k es log front
 
   -- the log and the commit point
-  at-point : (s : List Store) → writes (logStores logAt es ++ (lengthAt ≔ point ∷ s)) (diskOf blocks 0 sam log) ≡ writes s (diskOf blocks point sam (logged log es))
+  at-point : (s : List Store)
+      → writes (logStores logAt es ++ (lengthAt ≔ point ∷ s)) (diskOf blocks 0 sam log) ≡ writes s (diskOf blocks point sam (logged log es))
   unfolding writes
   at-point s =
       writes-append (logStores logAt es) (lengthAt ≔ point ∷ s) (diskOf blocks 0 sam log)
       ∙ ap (λ (w : List ℕ). writes s (set w lengthAt point)) (writes-log-all (blocks ∷ 0 ∷ sam) logAt es log front)
 
   -- n stores after the commit point
-  past-point : (n : ℕ) → journalDisk blocks point sam log closing es (length (logStores logAt es) + suc n) ≡ writes (take n (checkpointWith closing es)) (diskOf blocks point sam (logged log es))
+  past-point : (n : ℕ)
+      → journalDisk blocks point sam log closing es (length (logStores logAt es) + suc n)
+      ≡ writes (take n (checkpointWith closing es)) (diskOf blocks point sam (logged log es))
   unfolding journalWith
   past-point n =
       ap (λ (s : List Store). writes s (diskOf blocks 0 sam log)) (take-append-add (logStores logAt es) (lengthAt ≔ point ∷ checkpointWith closing es) (suc n))
@@ -117,8 +120,9 @@ module _ (blocks point : ℕ) (sam log : List ℕ) (closing es : List Store) (fr
     -- the closing stores done so far
     closed-by : (k : ℕ) → 3 * length es + 1 ≤ k → Closed blocks point (writes es sam) (logged log es) (journalDisk blocks point sam log closing es k)
     closed-by k h =
+        let n : ℕ = k - (3 * length es + 1) in
         rw (journal-closing k h)
-        (closed blocks (writes es sam) (written-length es) point (logged log es) (take (k - (3 * length es + 1)) closing) (closing-take (k - (3 * length es + 1)) closing c))
+        (closed blocks (writes es sam) (written-length es) point (logged log es) (take n closing) (closing-take n closing c))
 
     fits-log : 2 * lengthIn point ≤ logWords
     fits-log = omega (arith, tells, from .few)
@@ -128,7 +132,9 @@ module _ (blocks point : ℕ) (sam log : List ℕ) (closing es : List Store) (fr
       where
         go : Dec (3 * length es + 1 ≤ k) → durable (journalDisk blocks point sam log closing es k) ≡ writes es sam
         go (yes g) =
-            closed-durable blocks (writes es sam) (written-length es) point (logged log es) fits-log (journalDisk blocks point sam log closing es k) (closed-by k g)
+            closed-durable blocks (writes es sam) (written-length es) point (logged log es) fits-log
+            (journalDisk blocks point sam log closing es k)
+            (closed-by k g)
             (ap (λ (s : List Store). writes s (writes es sam)) logged-entries ∙ writes-twice es sam)
         go (no n) =
             let some : List Store = take (k - (2 * length es + 1)) es in
@@ -158,7 +164,9 @@ module _ (blocks point : ℕ) (sam log : List ℕ) (closing es : List Store) (fr
             ∙ diskOf-opens blocks 0 sam (writes (take k (logStores 0 es)) log) (from .sam-length)
             (length-writes (take k (logStores 0 es)) log ∙ from .log-length) some-blocks few-blocks noBits (omega arith) refl
         go (no h) (yes g) =
-            closed-opens blocks (writes es sam) (written-length es) point (logged log es) fits-log (journalDisk blocks point sam log closing es k) (closed-by k g)
+            closed-opens blocks (writes es sam) (written-length es) point (logged log es) fits-log
+            (journalDisk blocks point sam log closing es k)
+            (closed-by k g)
             logged-length some-blocks few-blocks (writes-noBits blocks es sam noBits valid) (omega (arith, tells)) still-valid
         go (no h) (no g) =
             let some : List Store = take (k - (2 * length es + 1)) es in
@@ -191,10 +199,13 @@ module _ (blocks : ℕ) (sam log : List ℕ) (es : List Store) (from : CommitFro
   commit-end k h =
       commit-journal k
       ∙ journal-closing blocks (commitPoint es) sam log closingStores es from k (omega arith)
-      ∙ ap (λ (s : List Store). writes s (diskOf blocks (commitPoint es) (writes es sam) (logged log es))) (take-all (k - (3 * length es + 1)) closingStores (omega arith))
+      ∙ ap
+      (λ (s : List Store). writes s (diskOf blocks (commitPoint es) (writes es sam) (logged log es)))
+      (take-all (k - (3 * length es + 1)) closingStores (omega arith))
 
 -- the log words of the disk itself serve as well as those that it started from
-pub commit-own-log : (blocks : ℕ) (sam log : List ℕ) (es : List Store) → CommitFrom sam log es → (k : ℕ) → commitDisk blocks sam (drop logAt (commitDisk blocks sam log es k)) es k ≡ commitDisk blocks sam log es k
+pub commit-own-log : (blocks : ℕ) (sam log : List ℕ) (es : List Store)
+    → CommitFrom sam log es → (k : ℕ) → commitDisk blocks sam (drop logAt (commitDisk blocks sam log es k)) es k ≡ commitDisk blocks sam log es k
 commit-own-log blocks sam log es from k = go (decLe k (2 * length es)) (decLe (3 * length es + 2) k)
   where
     disk : List ℕ
@@ -203,7 +214,9 @@ commit-own-log blocks sam log es from k = go (decLe k (2 * length es)) (decLe (3
     again : (own : List ℕ) → length own ≡ logWords → CommitFrom sam own es
     again own l = record { sam-length = from .sam-length; log-length = l; places = from .places; few = from .few }
 
-    own-log : (p : ℕ) (words own : List ℕ) → disk ≡ diskOf blocks p words own → length words ≡ bitmapWords → commitDisk blocks sam own es k ≡ diskOf blocks p words own → commitDisk blocks sam (drop logAt disk) es k ≡ disk
+    own-log : (p : ℕ) (words own : List ℕ)
+        → disk ≡ diskOf blocks p words own → length words ≡ bitmapWords → commitDisk blocks sam own es k ≡ diskOf blocks p words own
+        → commitDisk blocks sam (drop logAt disk) es k ≡ disk
     own-log p words own e l f =
         ap (λ (w : List ℕ). commitDisk blocks sam w es k) (ap (drop logAt) e ∙ diskOf-log blocks p words own l) ∙ f ∙ sym e
 

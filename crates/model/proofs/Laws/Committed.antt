@@ -28,7 +28,8 @@ committed-below memory s = noBits-bitmapOf (memory .blocks) _
 -- ---- the other slots
 
 -- each is refreshed
-pub refreshed-at : (memory : Memory) (new : Bitmap) (s t : ℕ) → (t ≡ s → ⊥) → getD (set (map (refreshed memory new) (memory .slots)) s idleSlot) t idleSlot ≡ refreshed memory new (slotAt memory t)
+pub refreshed-at : (memory : Memory) (new : Bitmap) (s t : ℕ)
+    → (t ≡ s → ⊥) → getD (set (map (refreshed memory new) (memory .slots)) s idleSlot) t idleSlot ≡ refreshed memory new (slotAt memory t)
 unfolding refreshed
 refreshed-at memory new s t n =
     getD-set-other (map (refreshed memory new) (memory .slots)) s t idleSlot idleSlot n
@@ -51,7 +52,8 @@ pub refreshed-idle : (memory : Memory) (new : Bitmap) (slot : Slot) → isActive
 unfolding refreshed
 refreshed-idle memory new slot e = cond-false (isActive (slot .state)) _ slot e
 
-refreshed-valid : (memory : Memory) (new : Bitmap) (slot : Slot) → slotValid (memory .blocks) slot ≡ true → slotValid (memory .blocks) (refreshed memory new slot) ≡ true
+refreshed-valid : (memory : Memory) (new : Bitmap) (slot : Slot)
+    → slotValid (memory .blocks) slot ≡ true → slotValid (memory .blocks) (refreshed memory new slot) ≡ true
 unfolding refreshed
 refreshed-valid memory new slot e = go (isActive (slot .state)) refl _
   where
@@ -77,7 +79,9 @@ module _ (memory : Memory) (s : ℕ) (parts : ValidParts memory) (h : s < length
   others-touch : (b t : ℕ) → (t ≡ s → ⊥) → touchesBlock (committed memory s) (slotAt (committed memory s) t) b ≡ touchesBlock memory (slotAt memory t) b
   unfolding committed touched
   others-touch b t n =
-      ap (λ (slot : Slot). isActive (slot .state) && xor (tamBit slot b) (bit (committedSam memory s .words) b)) (refreshed-at memory (committedSam memory s) s t n)
+      ap
+      (λ (slot : Slot). isActive (slot .state) && xor (tamBit slot b) (bit (committedSam memory s .words) b))
+      (refreshed-at memory (committedSam memory s) s t n)
       ∙ go (isActive (slotAt memory t .state)) refl
     where
       slot : Slot
@@ -86,18 +90,24 @@ module _ (memory : Memory) (s : ℕ) (parts : ValidParts memory) (h : s < length
       after : Slot
       after = refreshed memory (committedSam memory s) slot
 
-      go : (u : Bool) → isActive (slot .state) ≡ u → (isActive (after .state) && xor (tamBit after b) (bit (committedSam memory s .words) b)) ≡ (isActive (slot .state) && touched memory slot b)
+      go : (u : Bool)
+          → isActive (slot .state) ≡ u
+          → (isActive (after .state) && xor (tamBit after b) (bit (committedSam memory s .words) b)) ≡ (isActive (slot .state) && touched memory slot b)
       go true e =
           let kept =
           others-kept memory parts s t b n active e (bit (committedSam memory s .words) b) (committed-bits memory parts s active b) (tamBit after b)
-          (refreshed-bits memory parts (committedSam memory s) t e (λ x outside. noBits-bit (memory .blocks) (committedSam memory s .words) x (committed-below memory s) outside) b) in
+          (refreshed-bits memory parts (committedSam memory s) t e
+          (λ x outside. noBits-bit (memory .blocks) (committedSam memory s .words) x (committed-below memory s) outside)
+          b) in
           ap₂ _&&_ (refreshed-state memory (committedSam memory s) slot) (same-differ _ _ _ _ (kept .0) (kept .1))
       go false e =
           ap (λ (u : Bool). u && xor (tamBit after b) (bit (committedSam memory s .words) b)) (refreshed-state memory (committedSam memory s) slot ∙ e)
           ∙ sym (ap (λ (u : Bool). u && touched memory slot b) e)
 
   -- the slot is idle; what it had touched is in SAM now, as it was in COM
-  own-touch : (b : ℕ) → b < memory .blocks → one (differs memory b) ≡ one (touchesBlock memory (slotAt memory s) b) + one (xor (bit (committedSam memory s .words) b) (comBit memory b))
+  own-touch : (b : ℕ)
+      → b < memory .blocks
+      → one (differs memory b) ≡ one (touchesBlock memory (slotAt memory s) b) + one (xor (bit (committedSam memory s .words) b) (comBit memory b))
   unfolding touched
   own-touch b inside = go (xor tam sam) refl
     where
@@ -110,7 +120,9 @@ module _ (memory : Memory) (s : ℕ) (parts : ValidParts memory) (h : s < length
       new : bit (committedSam memory s .words) b ≡ tam
       new = committed-bits memory parts s active b
 
-      go : (t : Bool) → xor tam sam ≡ t → one (differs memory b) ≡ one (touchesBlock memory (slotAt memory s) b) + one (xor (bit (committedSam memory s .words) b) (comBit memory b))
+      go : (t : Bool)
+          → xor tam sam ≡ t
+          → one (differs memory b) ≡ one (touchesBlock memory (slotAt memory s) b) + one (xor (bit (committedSam memory s .words) b) (comBit memory b))
       go true e =
           let touches-it : touchesBlock memory (slotAt memory s) b ≡ true = ap₂ _&&_ active e in
           let differ = touched-differs memory parts s b inside touches-it in
@@ -137,12 +149,17 @@ module _ (memory : Memory) (s : ℕ) (parts : ValidParts memory) (h : s < length
         com-below = parts .com-below;
         slots-valid =
             allSlots-set (slotValid (memory .blocks)) slots s idleSlot (idle-valid (memory .blocks))
-            (allSlots-map (slotValid (memory .blocks)) (refreshed memory (committedSam memory s)) (memory .slots) (refreshed-valid memory (committedSam memory s)) (parts .slots-valid));
+            (allSlots-map (slotValid (memory .blocks)) (refreshed memory (committedSam memory s)) (memory .slots)
+            (refreshed-valid memory (committedSam memory s))
+            (parts .slots-valid));
         touches-agree =
             balanced-agree memory (committed memory s) s parts refl (sym size) h
             (λ b inside t n. others-touch b t n)
             (λ b inside.
-            subst (λ (slot : Slot). one (touchesBlock (committed memory s) slot b) + one (differs memory b) ≡ one (touchesBlock memory (slotAt memory s) b) + one (differs (committed memory s) b))
+            subst
+            (λ (slot : Slot).
+            one (touchesBlock (committed memory s) slot b) + one (differs memory b)
+            ≡ one (touchesBlock memory (slotAt memory s) b) + one (differs (committed memory s) b))
             (sym (getD-set-same slots s idleSlot idleSlot (omega (arith, size, length-set slots s idleSlot))))
             (omega (arith, own-touch b inside)));
         pending-valid = refl;

@@ -126,7 +126,8 @@ disk-log-length disk l = omega (arith, length-drop logAt disk)
 
 module _ (blocks word : ℕ) (words log : List ℕ) (size : length words ≡ bitmapWords) where
   -- bitmap words stored on a disk
-  pub writes-onDisk : (es : List Store) → Places bitmapWords es → writes (map onDisk es) (diskOf blocks word words log) ≡ diskOf blocks word (writes es words) log
+  pub writes-onDisk : (es : List Store)
+      → Places bitmapWords es → writes (map onDisk es) (diskOf blocks word words log) ≡ diskOf blocks word (writes es words) log
   writes-onDisk es places =
       writes-shift (blocks ∷ word ∷ []) bitmapAt es (words ++ log) refl
       ∙ ap {B = List ℕ} (λ r. blocks ∷ word ∷ r) (writes-append-left bitmapWords es words log size places)

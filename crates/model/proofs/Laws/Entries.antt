@@ -10,7 +10,7 @@ use lib.ListN.{length, getD, set, take, drop, length-set, length-append, length-
 use lib.Seq.{set-append-left, take-append-le, getD-set-same, getD-set-other, set-getD}
 use lib.Dec.{leb, ltb, eqb}
 use borrow.Author.Tests.{ltb-true, leb-true, eqb-true, eqb-false, eq-eqb, lt-ltb, le-leb}
-use Rattle.bitmap.specs.Sizes.{wordsFor}
+use Rattle.bitmap.specs.Sizes.{maxBlocks, bitmapWords, wordsFor}
 use Rattle.bitmap.specs.Bits.{noBitsFrom}
 use Rattle.model.specs.Stores.{Store, _≔_, writes, changesFrom, changes, logStores, onDisk, checkpointWith, journalWith, commitPoint, closingStores, commitStores}
 use Rattle.model.specs.Disk.{entriesIn, entriesValid, entriesAgree}
@@ -65,7 +65,8 @@ pub changesFrom-places : (k : ℕ) (old new : List ℕ) → Places (k + length o
 unfolding changesFrom
 changesFrom-places k [] new = tt
 changesFrom-places k (x ∷ old) [] = tt
-changesFrom-places k (x ∷ old) (y ∷ new) = go (eqb x y) (places-more (suc k + length old) (k + suc (length old)) rest (omega arith) (changesFrom-places (suc k) old new))
+changesFrom-places k (x ∷ old) (y ∷ new) =
+    go (eqb x y) (places-more (suc k + length old) (k + suc (length old)) rest (omega arith) (changesFrom-places (suc k) old new))
   where
     rest : List Store
     rest = changesFrom (suc k) old new
@@ -170,7 +171,7 @@ valid-length blocks low (e ∷ es) p =
     let h : length es ≤ wordsFor blocks - suc (e .place) = valid-length blocks (suc (e .place)) es (v .rest) in
     omega arith
 
-pub valid-places : (blocks low : ℕ) (es : List Store) → entriesValid blocks low es ≡ true → blocks ≤ 4096 → Places 128 es
+pub valid-places : (blocks low : ℕ) (es : List Store) → entriesValid blocks low es ≡ true → blocks ≤ maxBlocks → Places bitmapWords es
 valid-places blocks low [] p le = tt
 valid-places blocks low (e ∷ es) p le =
     let v : ValidEntry blocks low e es = valid-entry blocks low e es p in
@@ -202,7 +203,8 @@ set-noBits m (x ∷ words) (suc i) v p h =
     (noBits-first m x words p)
     (set-noBits (m - 32) words i v (noBits-rest m x words p) (subst (λ (n : ℕ). v < 2 ^ n) (omega arith) h))
 
-pub writes-noBits-from : (blocks low : ℕ) (es : List Store) (words : List ℕ) → noBitsFrom blocks words ≡ true → entriesValid blocks low es ≡ true → noBitsFrom blocks (writes es words) ≡ true
+pub writes-noBits-from : (blocks low : ℕ) (es : List Store) (words : List ℕ)
+    → noBitsFrom blocks words ≡ true → entriesValid blocks low es ≡ true → noBitsFrom blocks (writes es words) ≡ true
 unfolding writes
 writes-noBits-from blocks low [] words p q = p
 writes-noBits-from blocks low (e ∷ es) words p q =
@@ -215,10 +217,12 @@ writes-noBits-from blocks low (e ∷ es) words p q =
     (set-noBits blocks words (e .place) (e .value) p (v .small))
     (v .rest)
 
-pub writes-noBits : (blocks : ℕ) (es : List Store) (words : List ℕ) → noBitsFrom blocks words ≡ true → entriesValid blocks 0 es ≡ true → noBitsFrom blocks (writes es words) ≡ true
+pub writes-noBits : (blocks : ℕ) (es : List Store) (words : List ℕ)
+    → noBitsFrom blocks words ≡ true → entriesValid blocks 0 es ≡ true → noBitsFrom blocks (writes es words) ≡ true
 writes-noBits blocks es words p q = writes-noBits-from blocks 0 es words p q
 
-pub writes-take-noBits : (blocks k : ℕ) (es : List Store) (words : List ℕ) → noBitsFrom blocks words ≡ true → entriesValid blocks 0 es ≡ true → noBitsFrom blocks (writes (take k es) words) ≡ true
+pub writes-take-noBits : (blocks k : ℕ) (es : List Store) (words : List ℕ)
+    → noBitsFrom blocks words ≡ true → entriesValid blocks 0 es ≡ true → noBitsFrom blocks (writes (take k es) words) ≡ true
 writes-take-noBits blocks k es words p q = writes-noBits-from blocks 0 (take k es) words p (valid-take blocks 0 k es q)
 
 -- a changed word's number is below W: from W on both words are 0
@@ -236,7 +240,8 @@ changed-below blocks k x y hx hy ne = go (decLt k (wordsFor blocks))
     go (yes h) = h
     go (no h) = absurd (eqb-false x y ne (zeros (omega arith)))
 
-pub changesFrom-valid : (blocks k : ℕ) (old new : List ℕ) → noBitsFrom (blocks - 32 * k) old ≡ true → noBitsFrom (blocks - 32 * k) new ≡ true → entriesValid blocks k (changesFrom k old new) ≡ true
+pub changesFrom-valid : (blocks k : ℕ) (old new : List ℕ)
+    → noBitsFrom (blocks - 32 * k) old ≡ true → noBitsFrom (blocks - 32 * k) new ≡ true → entriesValid blocks k (changesFrom k old new) ≡ true
 unfolding changesFrom entriesValid
 changesFrom-valid blocks k [] new p q = refl
 changesFrom-valid blocks k (x ∷ old) [] p q = refl
@@ -273,7 +278,8 @@ changesFrom-valid blocks k (x ∷ old) (y ∷ new) p q =
           rest = v;
         })
 
-pub changes-valid : (blocks : ℕ) (old new : List ℕ) → noBitsFrom blocks old ≡ true → noBitsFrom blocks new ≡ true → entriesValid blocks 0 (changes old new) ≡ true
+pub changes-valid : (blocks : ℕ) (old new : List ℕ)
+    → noBitsFrom blocks old ≡ true → noBitsFrom blocks new ≡ true → entriesValid blocks 0 (changes old new) ≡ true
 changes-valid blocks old new p q = changesFrom-valid blocks 0 old new (start old p) (start new q)
   where
     start : (words : List ℕ) → noBitsFrom blocks words ≡ true → noBitsFrom (blocks - 32 * 0) words ≡ true
@@ -294,7 +300,8 @@ set-append-add (x ∷ front) words i v =
     ap (λ (n : ℕ). set (x ∷ (front ++ words)) n v) (suc-add (length front) i)
     ∙ ap {B = List ℕ} (λ r. x ∷ r) (set-append-add front words i v)
 
-pub writes-shift : (front : List ℕ) (n : ℕ) (s : List Store) (words : List ℕ) → length front ≡ n → writes (map (shift n) s) (front ++ words) ≡ front ++ writes s words
+pub writes-shift : (front : List ℕ) (n : ℕ) (s : List Store) (words : List ℕ)
+    → length front ≡ n → writes (map (shift n) s) (front ++ words) ≡ front ++ writes s words
 unfolding writes
 writes-shift front n [] words f = refl
 writes-shift front n (e ∷ s) words f =
@@ -304,7 +311,8 @@ writes-shift front n (e ∷ s) words f =
     ∙ writes-shift front n s (set words (e .place) (e .value)) f
 
 -- writes to places of the first words leave those behind them alone
-pub writes-append-left : (n : ℕ) (es : List Store) (words behind : List ℕ) → length words ≡ n → Places n es → writes es (words ++ behind) ≡ writes es words ++ behind
+pub writes-append-left : (n : ℕ) (es : List Store) (words behind : List ℕ)
+    → length words ≡ n → Places n es → writes es (words ++ behind) ≡ writes es words ++ behind
 unfolding writes
 writes-append-left n [] words behind l p = refl
 writes-append-left n (e ∷ es) words behind l p =
@@ -341,13 +349,15 @@ pub logStores-from : (n : ℕ) (es : List Store) → logStores n es ≡ map (shi
 logStores-from n es = ap (λ (i : ℕ). logStores i es) (sym (add-zero n)) ∙ logStores-shift n 0 es
 
 -- the first k stores of a log that starts behind n words
-pub writes-log : (front : List ℕ) (n k : ℕ) (es : List Store) (log : List ℕ) → length front ≡ n → writes (take k (logStores n es)) (front ++ log) ≡ front ++ writes (take k (logStores 0 es)) log
+pub writes-log : (front : List ℕ) (n k : ℕ) (es : List Store) (log : List ℕ)
+    → length front ≡ n → writes (take k (logStores n es)) (front ++ log) ≡ front ++ writes (take k (logStores 0 es)) log
 writes-log front n k es log f =
     ap (λ (s : List Store). writes s (front ++ log)) (ap (take k) (logStores-from n es) ∙ take-map (shift n) k (logStores 0 es))
     ∙ writes-shift front n (take k (logStores 0 es)) log f
 
 -- all of them
-pub writes-log-all : (front : List ℕ) (n : ℕ) (es : List Store) (log : List ℕ) → length front ≡ n → writes (logStores n es) (front ++ log) ≡ front ++ writes (logStores 0 es) log
+pub writes-log-all : (front : List ℕ) (n : ℕ) (es : List Store) (log : List ℕ)
+    → length front ≡ n → writes (logStores n es) (front ++ log) ≡ front ++ writes (logStores 0 es) log
 writes-log-all front n es log f =
     ap (λ (s : List Store). writes s (front ++ log)) (logStores-from n es) ∙ writes-shift front n (logStores 0 es) log f
 
@@ -382,7 +392,8 @@ length-entriesIn (suc n) (x ∷ []) h = absurd (omega arith)
 length-entriesIn (suc n) (x ∷ y ∷ words) h = ap suc (length-entriesIn n words (omega arith))
 
 -- entries that rise write no word below the first of them
-pub getD-writes-below : (blocks low : ℕ) (es : List Store) (words : List ℕ) (i : ℕ) → entriesValid blocks low es ≡ true → i < low → getD (writes es words) i 0 ≡ getD words i 0
+pub getD-writes-below : (blocks low : ℕ) (es : List Store) (words : List ℕ) (i : ℕ)
+    → entriesValid blocks low es ≡ true → i < low → getD (writes es words) i 0 ≡ getD words i 0
 unfolding writes
 getD-writes-below blocks low [] words i p h = refl
 getD-writes-below blocks low (e ∷ es) words i p h =
@@ -391,7 +402,8 @@ getD-writes-below blocks low (e ∷ es) words i p h =
     ∙ getD-set-other words (e .place) i (e .value) 0 (omega arith)
 
 -- entries agree with the words that they have written
-pub entries-agree : (blocks low : ℕ) (es : List Store) (words : List ℕ) (n : ℕ) → length words ≡ n → Places n es → entriesValid blocks low es ≡ true → entriesAgree (writes es words) es ≡ true
+pub entries-agree : (blocks low : ℕ) (es : List Store) (words : List ℕ) (n : ℕ)
+    → length words ≡ n → Places n es → entriesValid blocks low es ≡ true → entriesAgree (writes es words) es ≡ true
 unfolding writes entriesAgree
 entries-agree blocks low [] words n l p q = refl
 entries-agree blocks low (e ∷ es) words n l p q =

@@ -7,6 +7,7 @@ use mathlib.Core.Option.{none}
 use mathlib.Core.List.{List}
 use lib.ListN.{replicate, drop}
 use borrow.Author.Tests.{eq-eqb}
+use Rattle.bitmap.specs.Sizes.{slotCount}
 use Rattle.bitmap.specs.Bits.{bit}
 use Rattle.bitmap.proofs.Laws.Blocks.{allBelow-all}
 use Rattle.model.specs.Types.{Pending, Nothing, Recovery, Memory}
@@ -46,7 +47,7 @@ module _ (disk : List ℕ) (opens : openError disk ≡ none) where
         few-blocks = parts .few-blocks;
         sam-below = durable-noBits disk opens;
         com-below = durable-noBits disk opens;
-        slots-valid = all-idle (diskBlocks disk) 8;
+        slots-valid = all-idle (diskBlocks disk) slotCount;
         touches-agree = allBelow-all (diskBlocks disk) _ (λ b _. eq-eqb 0 _ (sym (ap one (xor-self (bit (durable disk) b)))));
         pending-valid = valid;
       }

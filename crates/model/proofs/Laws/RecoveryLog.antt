@@ -30,7 +30,9 @@ module _ (closing es : List Store) (k : ℕ) where
   next-word : k < length es → take 1 (drop k (checkpointWith closing es)) ≡ map onDisk (take 1 (drop k es))
   unfolding checkpointWith
   next-word h =
-      ap (take 1) (drop-append-le k (map onDisk es) closing (omega (arith, length-map es onDisk)) ∙ ap (λ (l : List Store). l ++ closing) (drop-map onDisk k es))
+      ap (take 1)
+      (drop-append-le k (map onDisk es) closing (omega (arith, length-map es onDisk))
+      ∙ ap (λ (l : List Store). l ++ closing) (drop-map onDisk k es))
       ∙ take-append-le 1 (map onDisk (drop k es)) closing (omega (arith, length-map (drop k es) onDisk, length-drop k es))
       ∙ take-map onDisk 1 (drop k es)
 
@@ -113,7 +115,8 @@ module _ (closing : List Store) (disk : List ℕ) (opens : openError disk ≡ no
         ∙ sym (writes-append one (drop 1 (drop k (logEntries disk))) words)
         ∙ ap (λ (es : List Store). writes es words) (take-append-drop 1 (drop k (logEntries disk)))
 
-    pub checkpointed-matches : (memory : Memory) (due : ℕ) → RecoveryMatches memory disk k due → RecoveryMatches memory (checkpointNext closing disk k) (k + 1) due
+    pub checkpointed-matches : (memory : Memory) (due : ℕ)
+        → RecoveryMatches memory disk k due → RecoveryMatches memory (checkpointNext closing disk k) (k + 1) due
     checkpointed-matches memory due m =
         record {
           blocks = blocks;
@@ -162,10 +165,17 @@ module _ (closing : List Store) (disk : List ℕ) (opens : openError disk ≡ no
     closed-next =
         rw (next-closing closing (logEntries disk) k (omega (arith, entries-length disk opens)))
         (subst (λ (d : List ℕ). Closed (diskBlocks disk) (getD disk lengthAt 0) words log (writes next d)) (sym whole)
-        (closed (diskBlocks disk) words size (getD disk lengthAt 0) log next (closing-take 1 (drop (k - length (logEntries disk)) closing) (closing-drop (k - length (logEntries disk)) closing c))))
+        (closed (diskBlocks disk) words size (getD disk lengthAt 0) log next (closing-take 1 rest (closing-drop made closing c))))
       where
+        -- the closing stores made before
+        made : ℕ
+        made = k - length (logEntries disk)
+
+        rest : List Store
+        rest = drop made closing
+
         next : List Store
-        next = take 1 (drop (k - length (logEntries disk)) closing)
+        next = take 1 rest
 
     fits-log : 2 * logLength disk ≤ logWords
     fits-log = omega (arith, parts .few-entries, parts .few-blocks)
@@ -201,5 +211,6 @@ cleared-matches disk opens memory k due e m =
     is-cleared : cleared ≡ diskOf (diskBlocks disk) 0 (diskBitmap disk) (drop logAt disk)
     is-cleared =
         ap₂ writes
-        (next-closing closingStores (logEntries disk) k (omega (arith, e, entries-length disk opens)) ∙ ap (λ (n : ℕ). take 1 (drop n closingStores)) none-before)
+        (next-closing closingStores (logEntries disk) k (omega (arith, e, entries-length disk opens))
+        ∙ ap (λ (n : ℕ). take 1 (drop n closingStores)) none-before)
         (disk-parts disk (omega (arith, opens-parts disk opens .size)))

@@ -45,7 +45,9 @@ module _ (memory : Memory) (parts : ValidParts memory) (s : ℕ) where
       outside h =
           bit-from (memory .blocks) bits b h
           ∙ sym
-          (ap₂ (cond (xor tam sam)) (noBits-bit (memory .blocks) (memory .sam .words) b (parts .sam-below) h) (noBits-bit (memory .blocks) (memory .com .words) b (parts .com-below) h)
+          (ap₂ (cond (xor tam sam))
+          (noBits-bit (memory .blocks) (memory .sam .words) b (parts .sam-below) h)
+          (noBits-bit (memory .blocks) (memory .com .words) b (parts .com-below) h)
           ∙ none-either (xor tam sam))
 
   -- the memory after it is valid
@@ -59,7 +61,8 @@ module _ (memory : Memory) (parts : ValidParts memory) (s : ℕ) where
           → 0 + one (differs memory b) ≡ one (touchesBlock memory (slotAt memory s) b) + one (xor (samBit memory b) (bit (rolledBackCom memory s .words) b))
       go b inside true e =
           let touches-it : touchesBlock memory (slotAt memory s) b ≡ true = ap₂ (λ (x y : Bool). x && y) active e in
-          let back : bit (rolledBackCom memory s .words) b ≡ samBit memory b = rolled-back-bits b ∙ ap (λ (t : Bool). cond t (samBit memory b) (comBit memory b)) e in
+          let back : bit (rolledBackCom memory s .words) b ≡ samBit memory b =
+          rolled-back-bits b ∙ ap (λ (t : Bool). cond t (samBit memory b) (comBit memory b)) e in
           omega (
             arith,
             ap one (touched-differs memory parts s b inside touches-it),
@@ -69,5 +72,6 @@ module _ (memory : Memory) (parts : ValidParts memory) (s : ℕ) where
           )
       go b inside false e =
           let untouched : touchesBlock memory (slotAt memory s) b ≡ false = ap₂ (λ (x y : Bool). x && y) active e in
-          let kept : bit (rolledBackCom memory s .words) b ≡ comBit memory b = rolled-back-bits b ∙ ap (λ (t : Bool). cond t (samBit memory b) (comBit memory b)) e in
+          let kept : bit (rolledBackCom memory s .words) b ≡ comBit memory b =
+          rolled-back-bits b ∙ ap (λ (t : Bool). cond t (samBit memory b) (comBit memory b)) e in
           omega (arith, ap one untouched, ap (λ (t : Bool). one (xor (samBit memory b) t)) kept)

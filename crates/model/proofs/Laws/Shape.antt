@@ -10,7 +10,7 @@ use denote.Laws.{Is}
 use denote.Shadow.{shadow}
 use denote.Array.{each}
 use denote.Struct.Field.{u32-field, array-field}
-use Rattle.bitmap.specs.Sizes.{slotCount}
+use Rattle.bitmap.specs.Sizes.{slotCount, bitmapWords}
 use Rattle.bitmap.specs.Bits.{IsBitmap}
 use Rattle.model.specs.declared.memory.Slot.{Slot}
 use Rattle.model.specs.declared.memory.Memory.{Memory}
@@ -31,8 +31,8 @@ zeros-small (suc n) zero = omega arith
 zeros-small (suc n) (suc k) = zeros-small n k
 
 -- the empty bitmap is a bitmap
-pub empty-is : IsBitmap (replicate 128 0)
-empty-is = record { size = refl; small = zeros-small 128 }
+pub empty-is : IsBitmap (replicate bitmapWords 0)
+empty-is = record { size = refl; small = zeros-small bitmapWords }
 
 -- ---- slots read out of an array
 
@@ -56,7 +56,7 @@ each-small (w ∷ ws) (u ∷ us) h zero = h .0 .1
 each-small (w ∷ ws) (u ∷ us) h (suc k) = each-small ws us (h .1) k
 
 -- of 128 words
-pub words-shaped : (words : List ℕ) (vs : List Val) → Is (array-field u32-field 128 .row) (map (λ w. w) words) vs → IsBitmap words
+pub words-shaped : (words : List ℕ) (vs : List Val) → Is (array-field u32-field bitmapWords .row) (map (λ w. w) words) vs → IsBitmap words
 words-shaped words vs good =
     record { size = sym (length-map words (λ w. w)) ∙ good .1 .0 .1; small = each-small words (good .0) (good .1 .1) }
 

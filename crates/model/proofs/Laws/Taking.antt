@@ -64,7 +64,8 @@ module _ (memory : Memory) (s : ℕ) (parts : ValidParts memory) (nothing : memo
       tam-bit b inside = bit-below (memory .blocks) newTam b (parts .few-blocks) inside ∙ tam-is b
 
       go : (b : ℕ) → b < memory .blocks → (t : Bool) → turned b ≡ t
-          → one (touchesBlock memory slot b) + one (differs memory b) ≡ one (touchesBlock memory (slotAt memory s) b) + one (xor (samBit memory b) (bit (volumeBitmap memory newCom .words) b))
+          → one (touchesBlock memory slot b) + one (differs memory b)
+          ≡ one (touchesBlock memory (slotAt memory s) b) + one (xor (samBit memory b) (bit (volumeBitmap memory newCom .words) b))
       go b inside true e =
           let sam : Bool = samBit memory b in
           let agree : differs memory b ≡ false = ap (xor sam) (same b inside e) ∙ xor-self sam in
@@ -80,7 +81,8 @@ module _ (memory : Memory) (s : ℕ) (parts : ValidParts memory) (nothing : memo
           )
       go b inside false e =
           let sam : Bool = samBit memory b in
-          let «com» : bit (volumeBitmap memory newCom .words) b ≡ comBit memory b = com-bit b inside ∙ ap (λ (t : Bool). cond t (not sam) (comBit memory b)) e in
+          let «com» : bit (volumeBitmap memory newCom .words) b ≡ comBit memory b =
+          com-bit b inside ∙ ap (λ (t : Bool). cond t (not sam) (comBit memory b)) e in
           let tam : tamBit slot b ≡ tamBit (slotAt memory s) b = tam-bit b inside ∙ ap (λ (t : Bool). cond t (not sam) (tamBit (slotAt memory s) b)) e in
           omega (
             arith,

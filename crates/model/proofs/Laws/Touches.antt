@@ -4,14 +4,14 @@ use native.Mathlib.Omega.{arith}
 use mathlib.Core.Path.{_≡_, refl, sym, ap, ap₂, _∙_, subst}
 use mathlib.Core.Bool.{Bool, true, false, cond, xor}
 use mathlib.Core.List.{List, [], _∷_, map}
-use lib.ListN.{length, getD, set, length-set}
-use lib.Seq.{getD-set-same, getD-set-other}
+use lib.ListN.{length, getD, set}
 use borrow.Author.Tests.{eq-eqb}
 use Rattle.bitmap.specs.Bits.{bit, noBitsFrom}
 use Rattle.bitmap.proofs.Laws.Blocks.{allBelow-all}
 use Rattle.model.specs.Types.{Bitmap, Slot, Pending, Nothing, Memory}
 use Rattle.model.specs.Memory.{slotAt, idleSlot, isActive, samBit, comBit, touched, emptyBitmap, withCom, withSlot, withPending}
 use Rattle.model.specs.Valid.{sameWords, allSlots, slotValid, touches, touchesAgree, pendingValid}
+use Rattle.model.proofs.Laws.Fields.{slots-length, slot-same, slot-other}
 use Rattle.model.proofs.Laws.Writes.{and-both, and-first, and-second}
 use Rattle.model.proofs.Laws.Valid.{ValidParts, touchesBlock, touches-at}
 
@@ -47,7 +47,8 @@ pub touches-changed : (memory other : Memory) (b s : ℕ) (slots others : List S
     → length slots ≡ length others
     → s < length slots
     → ((t : ℕ) → (t ≡ s → ⊥) → touchesBlock other (getD others t idleSlot) b ≡ touchesBlock memory (getD slots t idleSlot) b)
-    → touches other b others + one (touchesBlock memory (getD slots s idleSlot) b) ≡ touches memory b slots + one (touchesBlock other (getD others s idleSlot) b)
+    → touches other b others + one (touchesBlock memory (getD slots s idleSlot) b)
+    ≡ touches memory b slots + one (touchesBlock other (getD others s idleSlot) b)
 unfolding touches
 touches-changed memory other b s [] others l h same = absurd (omega arith)
 touches-changed memory other b s (x ∷ slots) [] l h same = absurd (omega arith)
@@ -62,14 +63,16 @@ touches-changed memory other b (suc s) (x ∷ slots) (y ∷ others) l h same =
 
 -- ---- the slots
 
-pub allSlots-set : (test : Slot → Bool) (slots : List Slot) (s : ℕ) (slot : Slot) → test slot ≡ true → allSlots test slots ≡ true → allSlots test (set slots s slot) ≡ true
+pub allSlots-set : (test : Slot → Bool) (slots : List Slot) (s : ℕ) (slot : Slot)
+    → test slot ≡ true → allSlots test slots ≡ true → allSlots test (set slots s slot) ≡ true
 unfolding allSlots
 allSlots-set test [] s slot new e = refl
 allSlots-set test (x ∷ slots) zero slot new e = and-both new (and-second (test x) _ e)
 allSlots-set test (x ∷ slots) (suc s) slot new e =
     and-both (and-first (test x) _ e) (allSlots-set test slots s slot new (and-second (test x) _ e))
 
-pub allSlots-map : (test : Slot → Bool) (f : Slot → Slot) (slots : List Slot) → ((slot : Slot) → test slot ≡ true → test (f slot) ≡ true) → allSlots test slots ≡ true → allSlots test (map f slots) ≡ true
+pub allSlots-map : (test : Slot → Bool) (f : Slot → Slot) (slots : List Slot)
+    → ((slot : Slot) → test slot ≡ true → test (f slot) ≡ true) → allSlots test slots ≡ true → allSlots test (map f slots) ≡ true
 unfolding allSlots
 allSlots-map test f [] keeps e = refl
 allSlots-map test f (x ∷ slots) keeps e =
@@ -84,7 +87,9 @@ active-valid blocks slot active below = and-both below (ap (λ (t : Bool). cond 
 
 -- a slot's change and the change of SAM and COM go together at a block
 abbrev pub Balanced : Memory → Memory → ℕ → ℕ → Type 0
-Balanced memory other s b = one (touchesBlock other (slotAt other s) b) + one (differs memory b) ≡ one (touchesBlock memory (slotAt memory s) b) + one (differs other b)
+Balanced memory other s b =
+    one (touchesBlock other (slotAt other s) b) + one (differs memory b)
+    ≡ one (touchesBlock memory (slotAt memory s) b) + one (differs other b)
 
 -- then the slots' touches agree with SAM and COM as before
 pub balanced-agree : (memory other : Memory) (s : ℕ)
@@ -115,7 +120,10 @@ pub touching-valid : (memory : Memory) (s : ℕ) (slot : Slot) («com» : Bitmap
     → s < length (memory .slots)
     → slotValid (memory .blocks) slot ≡ true
     → noBitsFrom (memory .blocks) («com» .words) ≡ true
-    → ((b : ℕ) → b < memory .blocks → one (touchesBlock memory slot b) + one (differs memory b) ≡ one (touchesBlock memory (slotAt memory s) b) + one (xor (samBit memory b) (bit («com» .words) b)))
+    → ((b : ℕ)
+    → b < memory .blocks
+    → one (touchesBlock memory slot b) + one (differs memory b)
+    ≡ one (touchesBlock memory (slotAt memory s) b) + one (xor (samBit memory b) (bit («com» .words) b)))
     → ValidParts (withSlot (withCom memory «com») s slot)
 unfolding touched pendingValid
 touching-valid memory s slot «com» parts nothing h new below own =
@@ -126,11 +134,11 @@ touching-valid memory s slot «com» parts nothing h new below own =
       com-below = below;
       slots-valid = allSlots-set (slotValid (memory .blocks)) (memory .slots) s slot new (parts .slots-valid);
       touches-agree =
-          balanced-agree memory next s parts refl (sym (length-set (memory .slots) s slot)) h
-          (λ b inside t n. ap (λ (x : Slot). touchesBlock memory x b) (getD-set-other (memory .slots) s t slot idleSlot n))
+          balanced-agree memory next s parts refl (sym (slots-length memory s slot)) h
+          (λ b inside t n. ap (λ (x : Slot). touchesBlock memory x b) (slot-other memory s slot t n))
           (λ b inside.
           subst (λ (x : Slot). one (touchesBlock memory x b) + one (differs memory b) ≡ one (touchesBlock memory (slotAt memory s) b) + one (differs next b))
-          (sym (getD-set-same (memory .slots) s slot idleSlot h))
+          (sym (slot-same memory s slot h))
           (own b inside));
       pending-valid = ap (pendingValid next) nothing;
     }
@@ -139,7 +147,8 @@ touching-valid memory s slot «com» parts nothing h new below own =
     next = withSlot (withCom memory «com») s slot
 
 -- the same memory with other valid work pending is valid
-pub pending-valid : (memory : Memory) (pending : Pending) → ValidParts memory → pendingValid (withPending memory pending) pending ≡ true → ValidParts (withPending memory pending)
+pub pending-valid : (memory : Memory) (pending : Pending)
+    → ValidParts memory → pendingValid (withPending memory pending) pending ≡ true → ValidParts (withPending memory pending)
 unfolding touchesAgree touched
 pending-valid memory pending parts valid =
     record {

@@ -8,6 +8,7 @@ use lib.ListN.{getD, replicate, getD-replicate}
 use lib.Pow.{pow-pos}
 use lib.Dec.{eqb}
 use borrow.Author.Tests.{eqb-true}
+use Rattle.bitmap.specs.Sizes.{maxBlocks, bitmapWords}
 use Rattle.bitmap.specs.Bits.{noBitsFrom}
 use Rattle.bitmap.proofs.Laws.Bits.{noBits-all}
 use Rattle.bitmap.proofs.Laws.Blocks.{allBelow-at}
@@ -19,7 +20,7 @@ use Rattle.model.proofs.Laws.DiskParts.{blocks-inRange, inRange-low, in
 
 pub record ValidParts (memory : Memory) : Type 0 where
   pub some-blocks : 1 ≤ memory .blocks
-  pub few-blocks : memory .blocks ≤ 4096
+  pub few-blocks : memory .blocks ≤ maxBlocks
   pub sam-below : noBitsFrom (memory .blocks) (memory .sam .words) ≡ true
   pub com-below : noBitsFrom (memory .blocks) (memory .com .words) ≡ true
   pub slots-valid : allSlots (slotValid (memory .blocks)) (memory .slots) ≡ true
@@ -71,7 +72,8 @@ allSlots-at test (slot ∷ slots) zero i e = and-first (test slot) _ e
 allSlots-at test (slot ∷ slots) (suc s) i e = allSlots-at test slots s i (and-second (test slot) _ e)
 
 -- a block that COM and SAM agree on is touched by no active slot; where they differ, by just one
-pub touches-at : (memory : Memory) (b : ℕ) → touchesAgree memory ≡ true → b < memory .blocks → touches memory b (memory .slots) ≡ cond (xor (samBit memory b) (comBit memory b)) 1 0
+pub touches-at : (memory : Memory) (b : ℕ)
+    → touchesAgree memory ≡ true → b < memory .blocks → touches memory b (memory .slots) ≡ cond (xor (samBit memory b) (comBit memory b)) 1 0
 unfolding touchesAgree
 touches-at memory b e h =
     eqb-true
@@ -108,14 +110,14 @@ touches-two memory b (slot ∷ slots) (suc s) (suc t) n e f =
     let ih : 2 ≤ touches memory b slots = touches-two memory b slots s t (λ q. n (ap suc q)) e f in omega arith
 
 -- the empty bitmap has no bits
-pub noBits-empty : (blocks : ℕ) → noBitsFrom blocks (replicate 128 0) ≡ true
+pub noBits-empty : (blocks : ℕ) → noBitsFrom blocks (replicate bitmapWords 0) ≡ true
 noBits-empty blocks =
-    noBits-all blocks (replicate 128 0) (λ k h. rw (getD-replicate {A = ℕ} 128 k 0 0 h) (pow-pos (blocks - 32 * k)))
+    noBits-all blocks (replicate bitmapWords 0) (λ k h. rw (getD-replicate {A = ℕ} bitmapWords k 0 0 h) (pow-pos (blocks - 32 * k)))
 
 -- an idle slot is valid
 pub idle-valid : (blocks : ℕ) → slotValid blocks idleSlot ≡ true
 unfolding slotValid
-idle-valid blocks = and-both (noBits-empty blocks) (words-same (replicate 128 0))
+idle-valid blocks = and-both (noBits-empty blocks) (words-same (replicate bitmapWords 0))
 
 slot-valid-below : (blocks : ℕ) (slot : Slot) → slotValid blocks slot ≡ true → noBitsFrom blocks (slot .tam .words) ≡ true
 unfolding slotValid

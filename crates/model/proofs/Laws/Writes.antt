@@ -52,7 +52,9 @@ unfolding writes
 write-again [] e c w v = ap (writes c) (set-set w (e .place) v (e .value))
 write-again (f ∷ a) e c w v = go (ℕ-discrete (e .place) (f .place)) (write-again a e c (set w (f .place) (f .value)) v)
   where
-    go : Dec (e .place ≡ f .place) → writes (a ++ (e ∷ c)) (set (set w (f .place) (f .value)) (e .place) v) ≡ writes (a ++ (e ∷ c)) (set w (f .place) (f .value)) → writes (a ++ (e ∷ c)) (set (set w (e .place) v) (f .place) (f .value)) ≡ writes (a ++ (e ∷ c)) (set w (f .place) (f .value))
+    go : Dec (e .place ≡ f .place)
+        → writes (a ++ (e ∷ c)) (set (set w (f .place) (f .value)) (e .place) v) ≡ writes (a ++ (e ∷ c)) (set w (f .place) (f .value))
+        → writes (a ++ (e ∷ c)) (set (set w (e .place) v) (f .place) (f .value)) ≡ writes (a ++ (e ∷ c)) (set w (f .place) (f .value))
     go (yes p) ih = ap (writes (a ++ (e ∷ c))) (ap (λ (i : ℕ). set (set w i v) (f .place) (f .value)) p ∙ set-set w (f .place) v (f .value))
     go (no h) ih = ap (writes (a ++ (e ∷ c))) (set-comm w (e .place) (f .place) v (f .value) h) ∙ ih
 
@@ -97,7 +99,8 @@ words-same [] = refl
 words-same (x ∷ xs) = and-both (eq-eqb x x refl) (words-same xs)
 
 -- the changed words of the rest, written behind words that stay
-pub writes-changesFrom : (front : List ℕ) (k : ℕ) (old new : List ℕ) → length front ≡ k → length old ≡ length new → writes (changesFrom k old new) (front ++ old) ≡ front ++ new
+pub writes-changesFrom : (front : List ℕ) (k : ℕ) (old new : List ℕ)
+    → length front ≡ k → length old ≡ length new → writes (changesFrom k old new) (front ++ old) ≡ front ++ new
 unfolding writes changesFrom
 writes-changesFrom front k [] [] f p = refl
 writes-changesFrom front k [] (y ∷ new) f p = absurd (suc-ne-zero (length new) (sym p))
@@ -110,7 +113,9 @@ writes-changesFrom front k (x ∷ old) (y ∷ new) f p = go (eqb x y) refl (writ
     rest : List Store
     rest = changesFrom (suc k) old new
 
-    go : (t : Bool) → eqb x y ≡ t → writes rest (front ++ (y ∷ []) ++ old) ≡ front ++ (y ∷ []) ++ new → writes (cond t rest (k ≔ y ∷ rest)) (front ++ (x ∷ old)) ≡ front ++ (y ∷ new)
+    go : (t : Bool)
+        → eqb x y ≡ t → writes rest (front ++ (y ∷ []) ++ old) ≡ front ++ (y ∷ []) ++ new
+        → writes (cond t rest (k ≔ y ∷ rest)) (front ++ (x ∷ old)) ≡ front ++ (y ∷ new)
     go true e ih =
         ap (λ (z : ℕ). writes rest (front ++ (z ∷ old))) (eqb-true x y e)
         ∙ ap (writes rest) (sym (append-snoc front y old))

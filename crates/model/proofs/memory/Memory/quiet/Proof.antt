@@ -15,7 +15,12 @@ new-requires : tie.Need-new-requires
 new-requires c κs = search needs
 
 returns : tie.Need-returns
-returns c = let a = c .before .before .args in c .new .ensures ∙ ap (λ (slot : Slot). memoryOf (a .blocks) (a .sam) (a .sam) (replicate slotCount slot) (a .pending)) (c .before .idle .ensures)
+returns c =
+    let a = c .before .before .args in
+    c .new .ensures
+    ∙ ap
+    (λ (slot : Slot). memoryOf (a .blocks) (a .sam) (a .sam) (replicate slotCount slot) (a .pending))
+    (c .before .idle .ensures)
 
 pub quiet-spec : {M : Type 1} → statement M
 quiet-spec = tie.close (tie.spec idle-requires new-requires returns)
