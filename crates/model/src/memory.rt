@@ -40,6 +40,7 @@ pub struct Memory {
 }
 
 impl Slot {
+    // The one place in the code that writes a whole slot.
     pub fn new(state: SlotState, tam: Bitmap) -> Slot
         ensures { λ r. ⌜ r ≡ slotOf state tam ⌝ }
     {
@@ -50,10 +51,7 @@ impl Slot {
     pub fn idle() -> Slot
         ensures { λ r. ⌜ r ≡ idleSlot ⌝ }
     {
-        Slot {
-            state: SlotState::Idle,
-            tam: Bitmap::EMPTY,
-        }
+        Slot::new(SlotState::Idle, Bitmap::EMPTY)
     }
 }
 

@@ -4,9 +4,9 @@ use mathlib.Core.Path.{_≡_, refl}
 use mathlib.Core.Bool.{false}
 use mathlib.Core.Option.{Option, none, some}
 use lib.Dec.{eqb}
-use Rattle.model.specs.Types.{Error, Counts, MemoryInvalid, DiskLength, DiskBlocks, DiskBitmap, DiskLog, DiskMismatch, BlocksRange, WorkPending, NothingPending, SlotRange, SlotBusy, SlotIdle, SlotPrecommitted, SlotNotPrecommitted, CountRange, ListShort, TooFewAvailable, BlockRange, BlockFree, BlockFreeing, LineMalformed}
+use Rattle.model.specs.Types.{Error, MemoryInvalid, DiskLength, DiskBlocks, DiskBitmap, DiskLog, DiskMismatch, BlocksRange, WorkPending, NothingPending, SlotRange, SlotBusy, SlotIdle, SlotPrecommitted, SlotNotPrecommitted, CountRange, ListShort, TooFewAvailable, BlockRange, BlockFree, BlockFreeing, LineMalformed}
 use Rattle.model.specs.Errors.{code}
-use Rattle.model.specs.Answers.{done, granted, due, counted, doneNumber, grantNumber, storesNumber, statusNumber}
+use Rattle.model.specs.Answers.{done, granted, due, doneNumber, grantNumber, storesNumber}
 
 abbrev pub numberOf : Option Error → ℕ
 numberOf none = 0
@@ -26,11 +26,6 @@ pub stores-number : (error : Option Error) (n : ℕ) → storesNumber (due error
 unfolding due
 stores-number none n = refl
 stores-number (some error) n = refl
-
-pub status-number : (error : Option Error) (counts : Counts) → statusNumber (counted error counts) ≡ numberOf error
-unfolding counted
-status-number none counts = refl
-status-number (some error) counts = refl
 
 -- no error has the number 0
 pub code-positive : (error : Error) → eqb (code error) 0 ≡ false

@@ -80,10 +80,6 @@ writes-take-again k es w =
 pub writes-twice : (es : List Store) (w : List ℕ) → writes es (writes es w) ≡ writes es w
 writes-twice es w = ap (λ (s : List Store). writes es (writes s w)) (sym (take-length es)) ∙ writes-take-again (length es) es w
 
--- the first k writes and then the others
-pub writes-take-drop : (k : ℕ) (es : List Store) (w : List ℕ) → writes (drop k es) (writes (take k es) w) ≡ writes es w
-writes-take-drop k es w = sym (writes-append (take k es) (drop k es) w) ∙ ap (λ (s : List Store). writes s w) (take-append-drop k es)
-
 pub same-words : (xs ys : List ℕ) → sameWords xs ys ≡ true → xs ≡ ys
 unfolding sameWords
 same-words [] [] p = refl
