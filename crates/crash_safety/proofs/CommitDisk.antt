@@ -1,6 +1,6 @@
 -- The disk of a pending commit: what it stands for after each number of stores.
 use Prim.Native.Nat.{ℕ, _+_, _*_, _≤_, _<_}
-use mathlib.Core.Path.{_≡_, refl, sym, ap, _∙_}
+use mathlib.Core.Path.{_≡_, sym, ap, _∙_}
 use mathlib.Core.Bool.{true}
 use mathlib.Core.Option.{none}
 use mathlib.Core.List.{List}
@@ -15,7 +15,7 @@ use Rattle.model.specs.Disk.{durable, baseImage}
 use Rattle.model.specs.Calls.Opening.{openError}
 use Rattle.model.proofs.Laws.Writes.{same-words, writes-changes, store-next-one}
 use Rattle.model.proofs.Laws.Entries.{changes-valid, changes-count}
-use Rattle.model.proofs.Laws.DiskParts.{disk-log-length}
+use Rattle.model.proofs.Laws.DiskParts.{disk-log-length, point-told}
 use Rattle.model.proofs.Laws.Valid.{ValidParts}
 use Rattle.model.proofs.Laws.Committed.{committed-bitmap, committed-below}
 use Rattle.model.proofs.Laws.Closing.{closes}
@@ -50,7 +50,7 @@ module _ (memory : Memory) (disk : List ℕ) (s : ℕ) (parts : ValidParts memor
   unfolding entriesOf
   opens-after k =
       ap openError (as-journal k)
-      ∙ journal-opens (memory .blocks) (commitPoint entries) old (drop logAt disk) closingStores entries from refl closes k
+      ∙ journal-opens (memory .blocks) (commitPoint entries) old (drop logAt disk) closingStores entries from (point-told entries) closes k
       (parts .some-blocks) (parts .few-blocks) (parts .sam-below)
       (changes-valid (memory .blocks) old new (parts .sam-below) (committed-below memory s))
       (changes-count (memory .blocks) old new (parts .sam-below) (committed-below memory s))
@@ -71,7 +71,7 @@ module _ (memory : Memory) (disk : List ℕ) (s : ℕ) (parts : ValidParts memor
   unfolding changedOf
   stands-after k h =
       ap durable (as-journal k)
-      ∙ durable-after (memory .blocks) (commitPoint entries) old (drop logAt disk) closingStores entries from refl closes k h
+      ∙ durable-after (memory .blocks) (commitPoint entries) old (drop logAt disk) closingStores entries from (point-told entries) closes k h
       ∙ written
 
   -- the next store on a disk that is as k stores leave it

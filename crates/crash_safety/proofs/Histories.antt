@@ -23,7 +23,7 @@ use Rattle.model.specs.Calls.Status.{statusError, counts as statusCounts, statu
 use Rattle.model.specs.Calls.Storing.{storeError, stillDue, advanced, nextStored, storeAnswer, storeMemory, storeDisk}
 use Rattle.model.specs.Causes.{memoryInvalid, diskLengthWrong, diskBlocksWrong, diskBitmapWrong, diskLogWrong, diskMismatched, blocksOutOfRange, isNothing, nothingPending, workPending, slotOutOfRange, slotActive, slotInactive, slotPrecommitted, slotNotPrecommitted, countOutOfRange, listShort, available, tooFewAvailable, blockOutOfRange, blockFree, blockFreeing}
 use Rattle.model.specs.Commit.{committedSam, entriesOf, changedOf, commitDue, refreshed, committed}
-use Rattle.model.specs.Disk.{entriesIn, logEntries, entriesValid, logValid, durable, dueStores, entriesAgree, recoveryMatches, diskMatches}
+use Rattle.model.specs.Disk.{lengthIn, entriesIn, logEntries, entriesValid, logValid, durable, dueStores, entriesAgree, recoveryMatches, diskMatches}
 use Rattle.model.specs.Errors.{firstOr, first, unlessRefused}
 use Rattle.model.specs.Memory.{touched}
 use Rattle.model.specs.Outcome.{outcome, Call, Outcome, openCall, startCall, allocateCall, deallocateCall, precommitCall, commitCall, rollbackCall, storeCall, statusCall, crashCall}
@@ -213,7 +213,7 @@ expected =
     ∷ []
 
 computed : sameRows histories expected ≡ true
-unfolding sameRows expected histories after shown slotSets follow beforePoint afterPoint retaken reopened borrowed rolledBackThere crashedTwice grow list storeCalls xor isSet bit wordOf wordsOf bitmapOf noBitsFrom scan from allocatedBlocks isAvailable availableBlocks member allBelow majority done granted due counted allocateError lowest taking allocateAnswer allocateMemory allocateList commitError committing commitAnswer commitMemory deallocateError freeing deallocateAnswer deallocateMemory formatError formatted formatAnswer formatDisk openError recoveryDue recoveryPending opened openAnswer openMemory precommitError precommitting precommitAnswer precommitMemory rollbackError rolledBackCom rolledBack rollbackAnswer rollbackMemory startError started startAnswer startMemory statusError statusCounts statusAnswer allocated activeSlots storeError stillDue advanced nextStored storeAnswer storeMemory storeDisk memoryInvalid diskLengthWrong diskBlocksWrong diskBitmapWrong diskLogWrong diskMismatched blocksOutOfRange isNothing nothingPending workPending slotOutOfRange slotActive slotInactive slotPrecommitted slotNotPrecommitted countOutOfRange listShort available tooFewAvailable blockOutOfRange blockFree blockFreeing committedSam entriesOf changedOf commitDue refreshed committed entriesIn logEntries entriesValid logValid durable dueStores entriesAgree recoveryMatches diskMatches firstOr first unlessRefused touched outcome storesDone storesDue oneMoreDone finished writes changesFrom logStores checkpointWith journalWith checkpointStores commitStores blocksInRange sameWords allSlots slotValid touches touchesAgree isQuiet pendingValid valid emptied hasWord wordsFrom setsWords without takes frees counts commits stores entered enter event made step run
+unfolding sameRows expected histories after shown slotSets follow beforePoint afterPoint retaken reopened borrowed rolledBackThere crashedTwice grow list storeCalls xor isSet bit wordOf wordsOf bitmapOf noBitsFrom scan from allocatedBlocks isAvailable availableBlocks member allBelow majority done granted due counted allocateError lowest taking allocateAnswer allocateMemory allocateList commitError committing commitAnswer commitMemory deallocateError freeing deallocateAnswer deallocateMemory formatError formatted formatAnswer formatDisk openError recoveryDue recoveryPending opened openAnswer openMemory precommitError precommitting precommitAnswer precommitMemory rollbackError rolledBackCom rolledBack rollbackAnswer rollbackMemory startError started startAnswer startMemory statusError statusCounts statusAnswer allocated activeSlots storeError stillDue advanced nextStored storeAnswer storeMemory storeDisk memoryInvalid diskLengthWrong diskBlocksWrong diskBitmapWrong diskLogWrong diskMismatched blocksOutOfRange isNothing nothingPending workPending slotOutOfRange slotActive slotInactive slotPrecommitted slotNotPrecommitted countOutOfRange listShort available tooFewAvailable blockOutOfRange blockFree blockFreeing committedSam entriesOf changedOf commitDue refreshed committed lengthIn entriesIn logEntries entriesValid logValid durable dueStores entriesAgree recoveryMatches diskMatches firstOr first unlessRefused touched outcome storesDone storesDue oneMoreDone finished writes changesFrom logStores checkpointWith journalWith checkpointStores commitStores blocksInRange sameWords allSlots slotValid touches touchesAgree isQuiet pendingValid valid emptied hasWord wordsFrom setsWords without takes frees counts commits stores entered enter event made step run
 computed = refl
 
 pub worked : histories ≡ expected

@@ -13,15 +13,14 @@ use Rattle.bitmap.specs.Blocks.{member}
 use Rattle.bitmap.proofs.Laws.Bits.{bit-empty}
 use Rattle.model.specs.declared.error.Error.{Error}
 use Rattle.model.specs.Errors.{unlessRefused}
-use Rattle.model.specs.Stores.{writes}
-use Rattle.model.specs.Disk.{entriesIn, entriesValid, durable}
+use Rattle.model.specs.Disk.{durable}
 use Rattle.crash_safety.specs.Ledger.{holders}
 use Rattle.model.specs.Calls.Format.{formatted, formatDisk}
 use Rattle.model.specs.Calls.Opening.{openError}
 use Rattle.model.specs.Outcome.{Call, openCall, startCall, allocateCall, deallocateCall, precommitCall, commitCall, rollbackCall, storeCall, statusCall, crashCall}
 use Rattle.crash_safety.specs.World.{World, begin, step, run}
 use Rattle.model.proofs.Laws.Accepted.{accepted-format}
-use Rattle.model.proofs.Laws.DiskParts.{blocks-inRange, diskOf-opens, diskOf-durable}
+use Rattle.model.proofs.Laws.DiskParts.{blocks-inRange, none-told, diskOf-quiet, quiet-opens}
 use Rattle.model.proofs.Laws.Valid.{noBits-empty}
 use Rattle.crash_safety.proofs.Holders.{takers-crashed}
 use Rattle.crash_safety.proofs.Invariant.{Invariant, Small}
@@ -64,13 +63,13 @@ formatted-small blocks few zero = omega arith
 formatted-small blocks few (suc k) = zeros-small (diskWords - 1) k
 
 formatted-opens : (blocks : ℕ) → 1 ≤ blocks → blocks ≤ maxBlocks → openError (formatted blocks) ≡ none
-unfolding formatted entriesIn entriesValid
+unfolding formatted
 formatted-opens blocks some-blocks few =
-    diskOf-opens blocks 0 (replicate bitmapWords 0) (replicate logWords 0) refl refl some-blocks few (noBits-empty blocks) (omega arith) refl
+    quiet-opens blocks 0 (replicate bitmapWords 0) (replicate logWords 0) refl none-told refl some-blocks few (noBits-empty blocks)
 
 formatted-durable : (blocks : ℕ) → durable (formatted blocks) ≡ replicate bitmapWords 0
-unfolding formatted entriesIn writes
-formatted-durable blocks = diskOf-durable blocks 0 (replicate bitmapWords 0) (replicate logWords 0) refl
+unfolding formatted
+formatted-durable blocks = diskOf-quiet blocks 0 (replicate bitmapWords 0) (replicate logWords 0) refl none-told
 
 format-disk : (disk : List ℕ) (blocks : ℕ) → length disk ≡ diskWords → 1 ≤ blocks → blocks ≤ maxBlocks → formatDisk disk blocks ≡ formatted blocks
 unfolding formatDisk unlessRefused

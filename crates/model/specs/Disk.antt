@@ -16,13 +16,17 @@ use Rattle.model.specs.Valid.{sameWords}
 abbrev pub diskBlocks : List ℕ → ℕ
 diskBlocks disk = getD disk blocksAt 0
 
+-- word 1
+abbrev pub wordOne : List ℕ → ℕ
+wordOne disk = getD disk lengthAt 0
+
 -- the log length that word 1 tells
-abbrev pub lengthIn : ℕ → ℕ
+unfoldable pub lengthIn : ℕ → ℕ
 lengthIn word = word
 
 -- the log length p of a disk
 abbrev pub logLength : List ℕ → ℕ
-logLength disk = lengthIn (getD disk lengthAt 0)
+logLength disk = lengthIn (wordOne disk)
 
 -- words 2 to 129
 abbrev pub diskBitmap : List ℕ → List ℕ

@@ -16,7 +16,7 @@ use Rattle.model.specs.Stores.{Store, writes, closingStores}
 use Rattle.model.specs.Disk.{lengthIn, diskOf, entriesIn, entriesValid, durable}
 use Rattle.model.specs.Calls.Opening.{openError}
 use Rattle.model.proofs.Laws.Entries.{set-append-add, entries-take}
-use Rattle.model.proofs.Laws.DiskParts.{diskOf-durable, diskOf-opens}
+use Rattle.model.proofs.Laws.DiskParts.{none-told, diskOf-durable, diskOf-opens}
 
 abbrev pub ClosingStore : Store → Type 0
 ClosingStore store = ((store .place ≡ lengthAt) × (lengthIn (store .value) ≡ 0)) ⊎ (logEnd ≤ store .place)
@@ -37,7 +37,7 @@ closing-drop (suc k) (store ∷ stores) c = closing-drop k stores (c .1)
 
 -- "word 1 becomes 0"
 pub closes : Closing closingStores
-closes = (inl (refl, refl), tt)
+closes = (inl (refl, none-told), tt)
 
 -- a disk after closing stores: its word 1 tells the same log length or none, bitmap and log stand
 pub record Closed (blocks word : ℕ) (words log disk : List ℕ) : Type 0 where

@@ -18,7 +18,7 @@ use Rattle.model.specs.Disk.{lengthIn, diskOf, entriesIn, entriesValid, 
 use Rattle.model.specs.Calls.Opening.{openError}
 use Rattle.model.proofs.Laws.Writes.{writes-append, length-writes, writes-take-again, writes-twice}
 use Rattle.model.proofs.Laws.Entries.{Places, places-take, changes-places, changes-length, length-logStores, take-checkpoint, writes-log, writes-log-all, entries-logged, writes-noBits, writes-take-noBits}
-use Rattle.model.proofs.Laws.DiskParts.{diskOf-log, diskOf-durable, diskOf-opens, writes-onDisk}
+use Rattle.model.proofs.Laws.DiskParts.{none-told, diskOf-log, diskOf-durable, diskOf-quiet, diskOf-opens, quiet-opens, writes-onDisk}
 use Rattle.model.proofs.Laws.Closing.{Closing, closing-take, Closed, closed, closed-durable, closed-opens}
 
 -- what a commit starts from: the old bitmap, the log words, and the entries that it writes
@@ -103,9 +103,8 @@ module _ (blocks point : ℕ) (sam log : List ℕ) (closing es : List Store) (fr
   -- ---- what it stands for
 
   pub durable-before : (k : ℕ) → k ≤ 2 * length es → durable (journalDisk blocks point sam log closing es k) ≡ sam
-  unfolding entriesIn writes
   durable-before k h =
-      ap durable (journal-before k h) ∙ diskOf-durable blocks 0 sam (writes (take k (logStores 0 es)) log) (from .sam-length)
+      ap durable (journal-before k h) ∙ diskOf-quiet blocks 0 sam (writes (take k (logStores 0 es)) log) (from .sam-length) none-told
 
   written-length : (s : List Store) → length (writes s sam) ≡ bitmapWords
   written-length s = length-writes s sam ∙ from .sam-length
@@ -152,7 +151,6 @@ module _ (blocks point : ℕ) (sam log : List ℕ) (closing es : List Store) (fr
         → entriesValid blocks 0 es ≡ true
         → length es ≤ wordsFor blocks
         → openError (journalDisk blocks point sam log closing es k) ≡ none
-    unfolding entriesIn entriesValid
     journal-opens k some-blocks few-blocks noBits valid few = go (decLe k (2 * length es)) (decLe (3 * length es + 1) k)
       where
         still-valid : entriesValid blocks 0 (entriesIn (lengthIn point) (logged log es)) ≡ true
@@ -161,8 +159,8 @@ module _ (blocks point : ℕ) (sam log : List ℕ) (closing es : List Store) (fr
         go : Dec (k ≤ 2 * length es) → Dec (3 * length es + 1 ≤ k) → openError (journalDisk blocks point sam log closing es k) ≡ none
         go (yes h) d =
             ap openError (journal-before k h)
-            ∙ diskOf-opens blocks 0 sam (writes (take k (logStores 0 es)) log) (from .sam-length)
-            (length-writes (take k (logStores 0 es)) log ∙ from .log-length) some-blocks few-blocks noBits (omega arith) refl
+            ∙ quiet-opens blocks 0 sam (writes (take k (logStores 0 es)) log) (from .sam-length) none-told
+            (length-writes (take k (logStores 0 es)) log ∙ from .log-length) some-blocks few-blocks noBits
         go (no h) (yes g) =
             closed-opens blocks (writes es sam) (written-length es) point (logged log es) fits-log
             (journalDisk blocks point sam log closing es k)

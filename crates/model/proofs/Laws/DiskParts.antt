@@ -12,9 +12,9 @@ use borrow.Author.Tests.{leb-true, le-leb, eqb-true, eq-eqb, not-false}
 use Rattle.bitmap.specs.Sizes.{maxBlocks, bitmapWords, wordsFor}
 use Rattle.bitmap.specs.Bits.{noBitsFrom}
 use Rattle.model.specs.Sizes.{diskWords, bitmapAt, logAt, logWords}
-use Rattle.model.specs.Stores.{Store, writes, onDisk}
+use Rattle.model.specs.Stores.{Store, writes, onDisk, commitPoint}
 use Rattle.model.specs.Valid.{blocksInRange}
-use Rattle.model.specs.Disk.{diskBlocks, lengthIn, logLength, diskBitmap, diskOf, entriesIn, logEntries, entriesValid, logValid, durable}
+use Rattle.model.specs.Disk.{diskBlocks, wordOne, lengthIn, logLength, diskBitmap, diskOf, entriesIn, logEntries, entriesValid, logValid, durable}
 use Rattle.model.specs.Causes.{diskLengthWrong, diskBlocksWrong, diskBitmapWrong, diskLogWrong}
 use Rattle.model.specs.Calls.Opening.{openError}
 use Rattle.model.proofs.Laws.First.{first-none, none-first}
@@ -92,6 +92,20 @@ parts-open disk o =
       ),
     )
 
+-- word 1 at 0 tells a log of no entries, and a commit point all of them
+pub none-told : lengthIn 0 ≡ 0
+unfolding lengthIn
+none-told = refl
+
+-- and at no other number it tells that
+pub told-none : (word : ℕ) → lengthIn word ≡ 0 → word ≡ 0
+unfolding lengthIn
+told-none word e = e
+
+pub point-told : (es : List Store) → lengthIn (commitPoint es) ≡ length es
+unfolding lengthIn
+point-told es = refl
+
 -- the parts of a disk that is given by its parts
 
 module _ (blocks word : ℕ) (words log : List ℕ) (size : length words ≡ bitmapWords) where
@@ -109,11 +123,16 @@ module _ (blocks word : ℕ) (words log : List ℕ) (size : length words ≡ bit
   unfolding durable
   diskOf-durable = ap₂ writes diskOf-entries diskOf-bitmap
 
+  -- word 1 is 0
+  pub diskOf-quiet : lengthIn word ≡ 0 → durable (diskOf blocks word words log) ≡ words
+  unfolding entriesIn writes
+  diskOf-quiet e = diskOf-durable ∙ ap (λ (n : ℕ). writes (entriesIn n log) words) e
+
   pub diskOf-length : length log ≡ logWords → length (diskOf blocks word words log) ≡ diskWords
   diskOf-length m = omega (arith, length-append words log)
 
 -- a disk is its parts
-pub disk-parts : (disk : List ℕ) → 2 ≤ length disk → disk ≡ diskOf (diskBlocks disk) (logLength disk) (diskBitmap disk) (drop logAt disk)
+pub disk-parts : (disk : List ℕ) → 2 ≤ length disk → disk ≡ diskOf (diskBlocks disk) (wordOne disk) (diskBitmap disk) (drop logAt disk)
 disk-parts [] h = absurd (omega arith)
 disk-parts (x ∷ []) h = absurd (omega arith)
 disk-parts (x ∷ y ∷ disk) h = ap {B = List ℕ} (λ r. x ∷ y ∷ r) (sym (take-append-drop bitmapWords disk))
@@ -151,3 +170,13 @@ module _ (blocks word : ℕ) (words log : List ℕ) (size : length words ≡ bit
         few-entries = few;
         entries = rw (diskOf-entries blocks word words log size) valid;
       })
+
+  pub quiet-opens : lengthIn word ≡ 0
+      → length log ≡ logWords
+      → 1 ≤ blocks
+      → blocks ≤ maxBlocks
+      → noBitsFrom blocks words ≡ true
+      → openError (diskOf blocks word words log) ≡ none
+  unfolding entriesIn entriesValid
+  quiet-opens e m some-blocks few-blocks noBits =
+      diskOf-opens m some-blocks few-blocks noBits (omega (arith, e)) (ap (λ (n : ℕ). entriesValid blocks 0 (entriesIn n log)) e)

@@ -12,9 +12,9 @@ use Rattle.model.specs.Types.{Memory}
 use Rattle.model.specs.Sizes.{logAt}
 use Rattle.model.specs.Stores.{writes}
 use Rattle.model.specs.Valid.{sameWords}
-use Rattle.model.specs.Disk.{diskBlocks, logLength, diskBitmap, diskOf, baseImage, entriesIn, durable, logEntries, logValid, entriesAgree, recoveryMatches}
+use Rattle.model.specs.Disk.{diskBlocks, logLength, diskBitmap, diskOf, baseImage, durable, logEntries, logValid, entriesAgree, recoveryMatches}
 use Rattle.model.proofs.Laws.Writes.{and-both, and-first, and-second, same-words, words-same}
-use Rattle.model.proofs.Laws.DiskParts.{diskOf-bitmap, diskOf-log, diskOf-durable}
+use Rattle.model.proofs.Laws.DiskParts.{none-told, diskOf-bitmap, diskOf-log, diskOf-quiet}
 
 -- nothing pending: log words mean nothing
 pub quiet-matches : (disk : List ℕ) (blocks : ℕ) (words log : List ℕ) → length words ≡ bitmapWords → disk ≡ diskOf blocks 0 words log
@@ -25,11 +25,10 @@ quiet-matches disk blocks words log size e =
 -- then the disk stands for its own bitmap
 pub quiet-durable : (memory : Memory) (disk : List ℕ) → length (memory .sam .words) ≡ bitmapWords → sameWords disk (baseImage memory disk) ≡ true
     → durable disk ≡ diskBitmap disk
-unfolding entriesIn writes
 quiet-durable memory disk size e =
     let is : disk ≡ baseImage memory disk = same-words disk (baseImage memory disk) e in
     ap durable is
-    ∙ diskOf-durable (memory .blocks) 0 (memory .sam .words) (drop logAt disk) size
+    ∙ diskOf-quiet (memory .blocks) 0 (memory .sam .words) (drop logAt disk) size none-told
     ∙ sym (ap (λ (d : List ℕ). diskBitmap d) is ∙ diskOf-bitmap (memory .blocks) 0 (memory .sam .words) (drop logAt disk) size)
 
 -- in recovery, part by part

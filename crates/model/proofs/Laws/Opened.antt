@@ -15,10 +15,10 @@ use Rattle.model.specs.Memory.{quietMemory, bitmap, idleSlot}
 use Rattle.model.specs.Sizes.{logAt}
 use Rattle.model.specs.Stores.{writes}
 use Rattle.model.specs.Valid.{allSlots, slotValid, touches, touchesAgree, isQuiet, pendingValid}
-use Rattle.model.specs.Disk.{diskBlocks, logLength, diskBitmap, diskOf, entriesIn, logEntries, durable, recoveryMatches, diskMatches}
+use Rattle.model.specs.Disk.{diskBlocks, wordOne, logLength, diskBitmap, diskOf, entriesIn, logEntries, durable, recoveryMatches, diskMatches}
 use Rattle.model.specs.Calls.Opening.{openError, recoveryDue, recoveryPending, opened}
 use Rattle.model.proofs.Laws.Writes.{and-both, words-same}
-use Rattle.model.proofs.Laws.DiskParts.{Opens, opens-parts, disk-parts, log-valid}
+use Rattle.model.proofs.Laws.DiskParts.{Opens, opens-parts, disk-parts, log-valid, told-none}
 use Rattle.model.proofs.Laws.Valid.{ValidParts, idle-valid}
 use Rattle.model.proofs.Laws.Touches.{one, xor-self}
 use Rattle.model.proofs.Laws.Matching.{quiet-matches, parts-matching}
@@ -85,7 +85,7 @@ module _ (disk : List ℕ) (opens : openError disk ≡ none) where
   by-log-matches zero e =
       quiet-matches disk (diskBlocks disk) (durable disk) (drop logAt disk) (durable-length disk opens)
       (disk-parts disk (omega (arith, parts .size))
-      ∙ ap (λ (p : ℕ). diskOf (diskBlocks disk) p (diskBitmap disk) (drop logAt disk)) e
+      ∙ ap (λ (word : ℕ). diskOf (diskBlocks disk) word (diskBitmap disk) (drop logAt disk)) (told-none (wordOne disk) e)
       ∙ ap (λ (words : List ℕ). diskOf (diskBlocks disk) 0 words (drop logAt disk))
       (sym (ap (λ (p : ℕ). writes (entriesIn p (drop logAt disk)) (diskBitmap disk)) e)))
   by-log-matches (suc p) e = due-matches (suc p + 1) (omega (arith, e))

@@ -6,15 +6,15 @@ use mathlib.Core.Path.{_≡_, refl, sym, ap, ap₂, _∙_, subst}
 use mathlib.Core.Bool.{true}
 use mathlib.Core.Option.{none}
 use mathlib.Core.List.{List, _++_, map}
-use lib.ListN.{length, getD, take, drop, take-append-drop, length-map, length-drop, drop-of-length-le}
+use lib.ListN.{length, take, drop, take-append-drop, length-map, length-drop, drop-of-length-le}
 use lib.Seq.{drop-append-le, take-append-le, drop-append-add, drop-drop}
 use Rattle.bitmap.specs.Sizes.{bitmapWords}
 use Rattle.bitmap.specs.Bits.{noBitsFrom}
 use Rattle.model.specs.Types.{Memory}
-use Rattle.model.specs.Sizes.{logAt, lengthAt, logWords}
+use Rattle.model.specs.Sizes.{logAt, logWords}
 use Rattle.model.specs.Stores.{Store, writes, onDisk, checkpointWith, closingStores}
 use Rattle.model.specs.Valid.{sameWords}
-use Rattle.model.specs.Disk.{diskBlocks, logLength, diskBitmap, diskOf, entriesIn, logEntries, entriesValid, entriesAgree, durable, baseImage}
+use Rattle.model.specs.Disk.{diskBlocks, wordOne, logLength, diskBitmap, diskOf, entriesIn, logEntries, entriesValid, entriesAgree, durable, baseImage}
 use Rattle.model.specs.Calls.Opening.{openError}
 use Rattle.model.proofs.Laws.Writes.{writes-append, writes-again, length-writes}
 use Rattle.model.proofs.Laws.Entries.{places-take, places-drop, valid-take, valid-drop, writes-noBits-from, take-map, drop-map, writes-agreeing}
@@ -67,7 +67,7 @@ module _ (closing : List Store) (disk : List ℕ) (opens : openError disk ≡ no
   size : length words ≡ bitmapWords
   size = bitmap-length disk opens
 
-  whole : disk ≡ diskOf (diskBlocks disk) (getD disk lengthAt 0) words log
+  whole : disk ≡ diskOf (diskBlocks disk) (wordOne disk) words log
   whole = disk-parts disk (omega (arith, parts .size))
 
   entries-there : entriesIn (logLength disk) log ≡ logEntries disk
@@ -82,10 +82,10 @@ module _ (closing : List Store) (disk : List ℕ) (opens : openError disk ≡ no
     abbrev one : List Store
     one = take 1 (drop k (logEntries disk))
 
-    checkpointed : checkpointNext closing disk k ≡ diskOf (diskBlocks disk) (getD disk lengthAt 0) (writes one words) log
+    checkpointed : checkpointNext closing disk k ≡ diskOf (diskBlocks disk) (wordOne disk) (writes one words) log
     checkpointed =
         ap₂ writes (next-word closing (logEntries disk) k (omega (arith, entries-length disk opens))) whole
-        ∙ writes-onDisk (diskBlocks disk) (getD disk lengthAt 0) words log size one
+        ∙ writes-onDisk (diskBlocks disk) (wordOne disk) words log size one
         (places-take bitmapWords 1 (drop k (logEntries disk)) (places-drop bitmapWords k (logEntries disk) (entries-places disk opens)))
 
     one-size : length (writes one words) ≡ bitmapWords
@@ -94,7 +94,7 @@ module _ (closing : List Store) (disk : List ℕ) (opens : openError disk ≡ no
     pub checkpointed-opens : openError (checkpointNext closing disk k) ≡ none
     checkpointed-opens =
         ap openError checkpointed
-        ∙ diskOf-opens (diskBlocks disk) (getD disk lengthAt 0) (writes one words) log one-size (log-length disk opens) (parts .some-blocks) (parts .few-blocks)
+        ∙ diskOf-opens (diskBlocks disk) (wordOne disk) (writes one words) log one-size (log-length disk opens) (parts .some-blocks) (parts .few-blocks)
         (writes-noBits-from (diskBlocks disk) 0 one words (parts .noBits)
         (valid-take (diskBlocks disk) 0 1 (drop k (logEntries disk)) (valid-drop (diskBlocks disk) 0 k (logEntries disk) (parts .entries))))
         (parts .few-entries)
@@ -104,7 +104,7 @@ module _ (closing : List Store) (disk : List ℕ) (opens : openError disk ≡ no
     unfolding durable
     checkpointed-durable =
         ap durable checkpointed
-        ∙ diskOf-durable (diskBlocks disk) (getD disk lengthAt 0) (writes one words) log one-size
+        ∙ diskOf-durable (diskBlocks disk) (wordOne disk) (writes one words) log one-size
         ∙ ap (λ (es : List Store). writes es (writes one words)) entries-there
         ∙ entry-again k (logEntries disk) words
 
@@ -126,7 +126,7 @@ module _ (closing : List Store) (disk : List ℕ) (opens : openError disk ≡ no
           noBits = ap (λ (n : ℕ). noBitsFrom n (diskBitmap (checkpointNext closing disk k))) (sym blocks) ∙ after .noBits;
           rest =
               ap₂ (λ (es : List Store) (w : List ℕ). writes (drop (k + 1) es) w) entries
-              (ap (λ (d : List ℕ). diskBitmap d) checkpointed ∙ diskOf-bitmap (diskBlocks disk) (getD disk lengthAt 0) (writes one words) log one-size)
+              (ap (λ (d : List ℕ). diskBitmap d) checkpointed ∙ diskOf-bitmap (diskBlocks disk) (wordOne disk) (writes one words) log one-size)
               ∙ one-fewer
               ∙ m .rest;
         }
@@ -140,7 +140,7 @@ module _ (closing : List Store) (disk : List ℕ) (opens : openError disk ≡ no
         entries : logEntries (checkpointNext closing disk k) ≡ logEntries disk
         entries =
             ap logEntries checkpointed
-            ∙ diskOf-entries (diskBlocks disk) (getD disk lengthAt 0) (writes one words) log one-size
+            ∙ diskOf-entries (diskBlocks disk) (wordOne disk) (writes one words) log one-size
             ∙ entries-there
 
   -- ---- a closing store is made
@@ -161,11 +161,11 @@ module _ (closing : List Store) (disk : List ℕ) (opens : openError disk ≡ no
       ap (writes (logEntries disk)) sam ∙ writes-agreeing (logEntries disk) (memory .sam .words) (m .agrees) ∙ sym sam
 
   module _ (k : ℕ) (h : logLength disk ≤ k) (c : Closing closing) where
-    closed-next : Closed (diskBlocks disk) (getD disk lengthAt 0) words log (checkpointNext closing disk k)
+    closed-next : Closed (diskBlocks disk) (wordOne disk) words log (checkpointNext closing disk k)
     closed-next =
         rw (next-closing closing (logEntries disk) k (omega (arith, entries-length disk opens)))
-        (subst (λ (d : List ℕ). Closed (diskBlocks disk) (getD disk lengthAt 0) words log (writes next d)) (sym whole)
-        (closed (diskBlocks disk) words size (getD disk lengthAt 0) log next (closing-take 1 rest (closing-drop made closing c))))
+        (subst (λ (d : List ℕ). Closed (diskBlocks disk) (wordOne disk) words log (writes next d)) (sym whole)
+        (closed (diskBlocks disk) words size (wordOne disk) log next (closing-take 1 rest (closing-drop made closing c))))
       where
         -- the closing stores made before
         made : ℕ
@@ -182,13 +182,13 @@ module _ (closing : List Store) (disk : List ℕ) (opens : openError disk ≡ no
 
     pub closing-opens : openError (checkpointNext closing disk k) ≡ none
     closing-opens =
-        closed-opens (diskBlocks disk) words size (getD disk lengthAt 0) log fits-log (checkpointNext closing disk k) closed-next (log-length disk opens)
+        closed-opens (diskBlocks disk) words size (wordOne disk) log fits-log (checkpointNext closing disk k) closed-next (log-length disk opens)
         (parts .some-blocks) (parts .few-blocks) (parts .noBits) (parts .few-entries) valid-there
 
     pub closing-durable : durable disk ≡ diskBitmap disk → durable (checkpointNext closing disk k) ≡ diskBitmap disk
     unfolding durable logEntries
     closing-durable written =
-        closed-durable (diskBlocks disk) words size (getD disk lengthAt 0) log fits-log (checkpointNext closing disk k) closed-next written
+        closed-durable (diskBlocks disk) words size (wordOne disk) log fits-log (checkpointNext closing disk k) closed-next written
 
 -- ---- a recovery's last store: word 1 becomes 0
 
