@@ -5,7 +5,7 @@ use mathlib.Core.Path.{_≡_, refl, sym, ap, _∙_}
 use mathlib.Core.Bool.{true}
 use mathlib.Core.Option.{none}
 use mathlib.Core.List.{List}
-use lib.ListN.{replicate, drop}
+use lib.ListN.{length, replicate, drop}
 use borrow.Author.Tests.{eq-eqb}
 use Rattle.bitmap.specs.Sizes.{slotCount}
 use Rattle.bitmap.specs.Bits.{bit}
@@ -13,17 +13,18 @@ use Rattle.bitmap.proofs.Laws.Blocks.{allBelow-all}
 use Rattle.model.specs.Types.{Pending, Nothing, Recovery, Memory}
 use Rattle.model.specs.Memory.{quietMemory, bitmap, idleSlot}
 use Rattle.model.specs.Sizes.{logAt}
-use Rattle.model.specs.Stores.{writes}
+use Rattle.model.specs.Stores.{writes, checkpointWith, closingStores, checkpointStores}
 use Rattle.model.specs.Valid.{allSlots, slotValid, touches, touchesAgree, isQuiet, pendingValid}
 use Rattle.model.specs.Disk.{diskBlocks, wordOne, logLength, diskBitmap, diskOf, entriesIn, logEntries, durable, recoveryMatches, diskMatches}
 use Rattle.model.specs.Calls.Opening.{openError, recoveryDue, recoveryPending, opened}
 use Rattle.model.proofs.Laws.Writes.{and-both, words-same}
+use Rattle.model.proofs.Laws.Entries.{length-checkpointWith}
 use Rattle.model.proofs.Laws.DiskParts.{Opens, opens-parts, disk-parts, log-valid, told-none}
 use Rattle.model.proofs.Laws.Valid.{ValidParts, idle-valid}
 use Rattle.model.proofs.Laws.Touches.{one, xor-self}
 use Rattle.model.proofs.Laws.Matching.{quiet-matches, parts-matching}
 use Rattle.model.proofs.Laws.Committing.{parts-recovery}
-use Rattle.model.proofs.Laws.Durable.{durable-length, durable-noBits, durable-agrees}
+use Rattle.model.proofs.Laws.Durable.{entries-length, durable-length, durable-noBits, durable-agrees}
 
 all-idle : (blocks n : ℕ) → allSlots (slotValid blocks) (replicate n idleSlot) ≡ true
 unfolding allSlots
@@ -103,3 +104,15 @@ module _ (disk : List ℕ) (opens : openError disk ≡ none) where
   pub opened-valid : ValidParts (opened disk)
   unfolding opened
   opened-valid = by-log-valid (logLength disk) refl
+
+-- the stores due that an open answers are the length of the recovery's store list
+pub recovery-due : (disk : List ℕ) → openError disk ≡ none → 1 ≤ logLength disk → recoveryDue (logLength disk) ≡ length (checkpointStores (logEntries disk))
+unfolding checkpointStores recoveryDue
+recovery-due disk opens logged = by-length (logLength disk) logged ∙ sym listed
+  where
+    by-length : (p : ℕ) → 1 ≤ p → recoveryDue p ≡ p + 1
+    by-length zero h = absurd (omega arith)
+    by-length (suc p) h = refl
+
+    listed : length (checkpointWith closingStores (logEntries disk)) ≡ logLength disk + 1
+    listed = length-checkpointWith closingStores (logEntries disk) ∙ ap (λ (n : ℕ). n + 1) (entries-length disk opens)
