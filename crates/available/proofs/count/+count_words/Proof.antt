@@ -1,4 +1,5 @@
-use Prim.Native.Nat.{ℕ, _<_, _+_, _*_, _-_}
+-- `available::count::count_words` meets its contract, by the number of its words: each half has fewer.
+use Prim.Native.Nat.{ℕ, _+_, _*_, _-_, _<_}
 use native.Mathlib.Omega.{arith}
 use mathlib.Core.Path.{_≡_}
 use borrow.Author.Needs.{needs}
@@ -14,7 +15,10 @@ use Rattle.available.proofs.count.+count_words.{statement}
 use Rattle.available.proofs.count.+count_words.Tie.{close}
 
 abbrev μ-count-words : Measures 2 count-words-kinds.ps ℕ
-μ-count-words κs a = a .1 .1 .1 .1 .0 - a .1 .1 .1 .0
+μ-count-words κs a =
+    let numbers = a .1 .1 in
+    let bounds = numbers .1 in
+    bounds .1 .0 - bounds .0
 
 abbrev count-words-at : ℕ → In 2 count-words-kinds.ps
 count-words-at t =
@@ -22,7 +26,7 @@ count-words-at t =
 
 abbrev count-words-below : ℕ → In 2 count-words-kinds.ps
 count-words-below t =
-    and 2 count-words-kinds.ps (falls 2 count-words-kinds.ps _<_ μ-count-words t) count-words.Pre
+    and 2 count-words-kinds.ps (falls 2 count-words-kinds.ps (λ (m n : ℕ). m < n) μ-count-words t) count-words.Pre
 
 -- src/count.rt:45:8
 count-words-sub-if1 : (t : ℕ) → count-words-lts.Need-sub-if1 (
@@ -41,7 +45,8 @@ count-words-count-word-requires : (t : ℕ) → count-words-lts.Need-count-word-
   count-words.Post,
 ) (count-words-at t) count-words.Post
 count-words-count-word-requires t c κs =
-    let p = c .before .pre .1 in (p .0, (p .1 .0, (p .1 .1 .0, omega arith)))
+    let p = c .before .pre .1 in
+    (p .0, (p .1 .0, (omega arith, omega arith)))
 
 -- src/count.rt:46:9
 count-words-returns : (t : ℕ) → count-words-lts.Need-returns (
@@ -81,7 +86,8 @@ count-words-count-words-requires : (t : ℕ) → count-words-lts.Need-count-word
   count-words.Post,
 ) (count-words-at t) count-words.Post
 count-words-count-words-requires t c κs =
-    let p = c .before .pre .1 in (omega arith, (p .0, (p .1 .0, (p .1 .1 .0, (omega arith, omega arith)))))
+    let p = c .before .pre .1 in
+    (omega arith, (p .0, (p .1 .0, (omega arith, (omega arith, omega arith)))))
 
 -- src/count.rt:50:9
 count-words-count-words-requires-2 : (t : ℕ) → count-words-lts.Need-count-words-requires-2 (
@@ -91,7 +97,8 @@ count-words-count-words-requires-2 : (t : ℕ) → count-words-lts.Need-count-wo
   count-words.Post,
 ) (count-words-at t) count-words.Post
 count-words-count-words-requires-2 t c κs =
-    let p = c .before .before .pre .1 in (omega arith, (p .0, (p .1 .0, (p .1 .1 .0, (omega arith, omega arith)))))
+    let p = c .before .before .pre .1 in
+    (omega arith, (p .0, (p .1 .0, (omega arith, (omega arith, omega arith)))))
 
 -- src/count.rt:51:5
 count-words-add-result : (t : ℕ) → count-words-lts.Need-add-result (
