@@ -43,7 +43,7 @@ shifted-lt w i e = rw one-mul at (div-lt-iff-lt-mul (pow-pos i) .0 one)
     one = omega arith
 
 -- a word is below 2 ^ i just if it is 0 when shifted by i
-eqb-shift : (w i : ℕ) → eqb (w / 2 ^ i) 0 ≡ ltb w (2 ^ i)
+pub eqb-shift : (w i : ℕ) → eqb (w / 2 ^ i) 0 ≡ ltb w (2 ^ i)
 eqb-shift w i = go (ltb w (2 ^ i)) refl
   where
     go : (t : Bool) → ltb w (2 ^ i) ≡ t → eqb (w / 2 ^ i) 0 ≡ t
