@@ -28,7 +28,6 @@ abbrev count-words-below : ℕ → In 2 count-words-kinds.ps
 count-words-below t =
     and 2 count-words-kinds.ps (falls 2 count-words-kinds.ps (λ (m n : ℕ). m < n) μ-count-words t) count-words.Pre
 
--- src/count.rt:45:8
 count-words-sub-if1 : (t : ℕ) → count-words-lts.Need-sub-if1 (
   count-word-reads.Asked,
   count-word-reads.Learnt,
@@ -37,7 +36,6 @@ count-words-sub-if1 : (t : ℕ) → count-words-lts.Need-sub-if1 (
 ) (count-words-at t) count-words.Post
 count-words-sub-if1 t c = search needs
 
--- src/count.rt:46:9
 count-words-count-word-requires : (t : ℕ) → count-words-lts.Need-count-word-requires (
   count-word-reads.Asked,
   count-word-reads.Learnt,
@@ -48,7 +46,6 @@ count-words-count-word-requires t c κs =
     let p = c .before .pre .1 in
     (p .0, (p .1 .0, (omega arith, omega arith)))
 
--- src/count.rt:46:9
 count-words-returns : (t : ℕ) → count-words-lts.Need-returns (
   count-word-reads.Asked,
   count-word-reads.Learnt,
@@ -60,7 +57,6 @@ count-words-returns t c =
     let next : a .lo + 1 ≡ a .hi = omega (arith, c .before .if1 .taken) in
     rw next at (c .count-word .ensures)
 
--- src/count.rt:48:24
 count-words-sub-middle : (t : ℕ) → count-words-lts.Need-sub-middle (
   count-word-reads.Asked,
   count-word-reads.Learnt,
@@ -69,7 +65,6 @@ count-words-sub-middle : (t : ℕ) → count-words-lts.Need-sub-middle (
 ) (count-words-at t) count-words.Post
 count-words-sub-middle t c = search needs
 
--- src/count.rt:48:18
 count-words-add-middle : (t : ℕ) → count-words-lts.Need-add-middle (
   count-word-reads.Asked,
   count-word-reads.Learnt,
@@ -78,7 +73,6 @@ count-words-add-middle : (t : ℕ) → count-words-lts.Need-add-middle (
 ) (count-words-at t) count-words.Post
 count-words-add-middle t c = search needs
 
--- src/count.rt:49:9
 count-words-count-words-requires : (t : ℕ) → count-words-lts.Need-count-words-requires (
   count-word-reads.Asked,
   count-word-reads.Learnt,
@@ -89,7 +83,6 @@ count-words-count-words-requires t c κs =
     let p = c .before .pre .1 in
     (omega arith, (p .0, (p .1 .0, (omega arith, (omega arith, omega arith)))))
 
--- src/count.rt:50:9
 count-words-count-words-requires-2 : (t : ℕ) → count-words-lts.Need-count-words-requires-2 (
   count-word-reads.Asked,
   count-word-reads.Learnt,
@@ -100,7 +93,6 @@ count-words-count-words-requires-2 t c κs =
     let p = c .before .before .pre .1 in
     (omega arith, (p .0, (p .1 .0, (omega arith, (omega arith, omega arith)))))
 
--- src/count.rt:51:5
 count-words-add-result : (t : ℕ) → count-words-lts.Need-add-result (
   count-word-reads.Asked,
   count-word-reads.Learnt,
@@ -116,7 +108,6 @@ count-words-add-result t c =
       from-length (isAvailable (a .sam .now) (a .«com» .now)) (a .blocks) (32 * a .lo),
     )
 
--- src/count.rt:37:1
 count-words-returns-2 : (t : ℕ) → count-words-lts.Need-returns-2 (
   count-word-reads.Asked,
   count-word-reads.Learnt,
