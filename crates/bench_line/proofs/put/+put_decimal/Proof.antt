@@ -13,7 +13,7 @@ use Rattle.bench_line.proofs.put.+put_decimal.{statement}
 use Rattle.bench_line.proofs.put.+put_decimal.Tie.{close}
 
 abbrev μ-put-decimal : Measures 1 put-decimal-kinds.ps ℕ
-μ-put-decimal κs a = a .1 .1 .0
+μ-put-decimal κs a = let numbers = a .1 in numbers .1 .0
 
 abbrev put-decimal-at : ℕ → In 1 put-decimal-kinds.ps
 put-decimal-at t =
@@ -82,13 +82,22 @@ put-decimal-add-out-2 : (t : ℕ) → put-decimal-lts.Need-add-out-2 (
 put-decimal-add-out-2 t c = omega arith
 
 -- after the call: there is room for the last digit
-length-kept : (t : ℕ) (c : put-decimal-lts.After-put-decimal (put-decimal-below t, put-decimal.Post) (put-decimal-at t) put-decimal.Post) → length (c .put-decimal .last .0) ≡ length (c .before .before .before .before .args .out .now)
+abbrev Called : ℕ → Type 0
+Called t = put-decimal-lts.After-put-decimal (put-decimal-below t, put-decimal.Post) (put-decimal-at t) put-decimal.Post
+
+length-kept : (t : ℕ) (c : Called t) → length (c .put-decimal .last .0) ≡ length (c .before .before .before .before .args .out .now)
 length-kept t c = c .put-decimal .kept .0
 
-room : (t : ℕ) (c : put-decimal-lts.After-put-decimal (put-decimal-below t, put-decimal.Post) (put-decimal-at t) put-decimal.Post) → c .put-decimal .result < length (c .put-decimal .last .0)
+room : (t : ℕ) (c : Called t) → c .put-decimal .result < length (c .put-decimal .last .0)
 room t c =
     let s = c .before .before .before .before in
-    omega (arith, s .pre .1, c .put-decimal .ensures .nextIs, length-kept t c, digits-length (s .args .n) (c .before .before .if1 .left) (s .fits .n .fits))
+    omega (
+      arith,
+      s .pre .1,
+      c .put-decimal .ensures .nextIs,
+      length-kept t c,
+      digits-length (s .args .n) (c .before .before .if1 .left) (s .fits .n .fits),
+    )
 
 put-decimal-slice-write-out-2 : (t : ℕ) → put-decimal-lts.Need-slice-write-out-2 (
   put-decimal-below t,
@@ -117,17 +126,7 @@ put-decimal-returns-2 : (t : ℕ) → put-decimal-lts.Need-returns-2 (
 put-decimal-returns-2 t c =
     let p = c .before .before in
     let s = p .before .before .before .before in
-    put-digits
-    (s .args .out .now)
-    (p .put-decimal .last .0)
-    (s .args .at)
-    (p .put-decimal .result)
-    (s .args .n)
-    (p .before .before .if1 .left)
-    (s .fits .n .fits)
-    (omega (arith, s .pre .1))
-    (room t p)
-    (p .put-decimal .ensures)
+    put-digits (s .args .n) (p .before .before .if1 .left) (s .fits .n .fits) (omega (arith, s .pre .1)) (room t p) (p .put-decimal .ensures)
 
 pub +put-decimal-spec : {M : Type 1} → statement M
 +put-decimal-spec = close μ-put-decimal λ t. put-decimal-lts.spec (
