@@ -9,12 +9,12 @@ use lib.ListN.{length, getD, set, take, drop}
 use lib.Seq.{drop-cons, take-suc}
 use borrow.Author.Tests.{eq-eqb, ne-eqb}
 use Rattle.bitmap.specs.Sizes.{maxBlocks}
-use Rattle.bitmap.specs.Bits.{bit, bitmapOf, IsBitmap}
+use Rattle.bitmap.specs.Bits.{bit, bitmapOf, noBitsFrom, IsBitmap}
 use Rattle.bitmap.specs.Blocks.{isAvailable, availableBlocks, member}
 use Rattle.bitmap.proofs.Laws.Bits.{bitmapOf-is, bitmapOf-bit}
 use Rattle.bitmap.proofs.Laws.Blocks.{member-from-true, from-same}
 use Rattle.bitops.specs.Block.{putBit}
-use Rattle.available.specs.Take.{CanTake, Takes}
+use Rattle.available.specs.Take.{Takes}
 use Rattle.available.specs.Available.{availableFrom, nextAvailable}
 use Rattle.bitops.proofs.Laws.Overwrite.{overwritten-step}
 use Rattle.bitops.proofs.Laws.Block.{bit-put, put-member}
@@ -31,17 +31,14 @@ pub record Taken (m : ℕ) (sam com₀ tam₀ list₀ : List ℕ) (n next : ℕ)
   pub same : (b : ℕ) → next ≤ b → bit «com» b ≡ bit com₀ b
 
 -- before the first
-pub taken-none : {m count : ℕ} {sam com₀ tam₀ list₀ : List ℕ} → CanTake m count sam com₀ tam₀ list₀
+pub taken-none : {m : ℕ} {sam com₀ tam₀ list₀ : List ℕ} → m ≤ maxBlocks → IsBitmap com₀ → IsBitmap tam₀
+    → noBitsFrom m com₀ ≡ true
+    → noBitsFrom m tam₀ ≡ true
     → Taken m sam com₀ tam₀ list₀ 0 0 com₀ tam₀ list₀
 unfolding member availableBlocks
-taken-none {m} {count} {sam} {com₀} {tam₀} can =
+taken-none {m} {sam} {com₀} {tam₀} h hc ht nc nt =
     record {
-      takes =
-          record {
-            inCom = sym (bitmapOf-bit m com₀ (can .volume) (can .isCom) (can .endOfCom));
-            inTam = sym (bitmapOf-bit m tam₀ (can .volume) (can .isTam) (can .endOfTam));
-            listed = refl;
-          };
+      takes = record { inCom = sym (bitmapOf-bit m com₀ h hc nc); inTam = sym (bitmapOf-bit m tam₀ h ht nt); listed = refl };
       left = refl;
       same = λ b l. refl;
     }

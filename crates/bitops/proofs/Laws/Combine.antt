@@ -40,33 +40,31 @@ getD-zip3 f (x ∷ xs) (y ∷ ys) [] k ey ez h = absurd (omega arith)
 getD-zip3 f (x ∷ xs) (y ∷ ys) (z ∷ zs) zero ey ez h = refl
 getD-zip3 f (x ∷ xs) (y ∷ ys) (z ∷ zs) (suc k) ey ez h = getD-zip3 f xs ys zs k (omega arith) (omega arith) (omega arith)
 
-module _ (f : ℕ → ℕ → ℕ → ℕ) {u v w : List ℕ} (hu : IsBitmap u) (hv : IsBitmap v) (hw : IsBitmap w) where
-  -- of bitmaps as many as a bitmap has
+module _ (f : ℕ → ℕ → ℕ → ℕ) (u v w : List ℕ)
+    (eu : length u ≡ bitmapWords) (ev : length v ≡ bitmapWords) (ew : length w ≡ bitmapWords) where
+  -- of as many words as a bitmap has, as many
   zip3-size : length (zip3 f u v w) ≡ bitmapWords
-  zip3-size = length-zip3 f u v w (hv .size ∙ sym (hu .size)) (hw .size ∙ sym (hu .size)) ∙ hu .size
+  zip3-size = length-zip3 f u v w (ev ∙ sym eu) (ew ∙ sym eu) ∙ eu
 
   word-at : (k : ℕ) → k < bitmapWords → getD (zip3 f u v w) k 0 ≡ f (getD u k 0) (getD v k 0) (getD w k 0)
-  word-at k h = getD-zip3 f u v w k (hv .size ∙ sym (hu .size)) (hw .size ∙ sym (hu .size)) (omega (arith, hu .size))
+  word-at k h = getD-zip3 f u v w k (ev ∙ sym eu) (ew ∙ sym eu) (omega arith)
 
--- ---- a loop that makes the words
+  -- a loop that makes the words
+  module _ (old : List ℕ) {words : List ℕ} (k : ℕ) (eo : length old ≡ bitmapWords)
+      (so : Overwritten k (zip3 f u v w) old words) where
+    -- the word that is next has not been written
+    pub zip3-at : k < bitmapWords → getD words k 0 ≡ getD old k 0
+    zip3-at h = overwritten-at k (zip3 f u v w) old words (omega (arith, zip3-size)) (omega arith) so
 
-module _ (f : ℕ → ℕ → ℕ → ℕ) {u v w words : List ℕ} (old : List ℕ) (k : ℕ)
-    (hu : IsBitmap u) (hv : IsBitmap v) (hw : IsBitmap w) (eo : length old ≡ bitmapWords)
-    (so : Overwritten k (zip3 f u v w) old words) where
-  -- the word that is next has not been written
-  pub zip3-at : k < bitmapWords → getD words k 0 ≡ getD old k 0
-  zip3-at h = overwritten-at k (zip3 f u v w) old words (omega (arith, zip3-size f hu hv hw)) (omega arith) so
+    -- the next word is made of those in its place
+    pub zip3-step : {word : ℕ} → k < bitmapWords → word ≡ f (getD u k 0) (getD v k 0) (getD w k 0)
+        → Overwritten (k + 1) (zip3 f u v w) old (set words k word)
+    zip3-step h e =
+        rw (e ∙ sym (word-at k h)) (overwritten-step k (zip3 f u v w) old words (omega (arith, zip3-size)) (omega arith) so)
 
-  -- the next word is made of those in its place
-  pub zip3-step : {word : ℕ} → k < bitmapWords → word ≡ f (getD u k 0) (getD v k 0) (getD w k 0)
-      → Overwritten (k + 1) (zip3 f u v w) old (set words k word)
-  zip3-step h e =
-      rw (e ∙ sym (word-at f hu hv hw k h))
-      (overwritten-step k (zip3 f u v w) old words (omega (arith, zip3-size f hu hv hw)) (omega arith) so)
-
-  -- and past the last all are made
-  pub zip3-all : bitmapWords ≤ k → words ≡ zip3 f u v w
-  zip3-all h = overwritten-all k (zip3 f u v w) old words (omega (arith, zip3-size f hu hv hw)) (omega arith) so
+    -- and past the last all are made
+    pub zip3-all : bitmapWords ≤ k → words ≡ zip3 f u v w
+    zip3-all h = overwritten-all k (zip3 f u v w) old words (omega (arith, zip3-size)) (omega arith) so
 
 -- ---- the bits
 
@@ -79,20 +77,26 @@ pub record Bitwise (f : ℕ → ℕ → ℕ → ℕ) (g : Bool → Bool → Bool
 
 module _ (f : ℕ → ℕ → ℕ → ℕ) (g : Bool → Bool → Bool → Bool) (by : Bitwise f g)
     (u v w : List ℕ) (hu : IsBitmap u) (hv : IsBitmap v) (hw : IsBitmap w) where
+  size-of : length (zip3 f u v w) ≡ bitmapWords
+  size-of = zip3-size f u v w (hu .size) (hv .size) (hw .size)
+
+  word-of : (k : ℕ) → k < bitmapWords → getD (zip3 f u v w) k 0 ≡ f (getD u k 0) (getD v k 0) (getD w k 0)
+  word-of = word-at f u v w (hu .size) (hv .size) (hw .size)
+
   -- bitmaps combined are a bitmap
   pub zip3-is : IsBitmap (zip3 f u v w)
   zip3-is =
       record {
-        size = zip3-size f hu hv hw;
+        size = size-of;
         small = λ k. ⊎-elim (within k) (past k) (below-or-from k bitmapWords);
       }
     where
       within : (k : ℕ) → k < bitmapWords → getD (zip3 f u v w) k 0 < 2 ^ wordBits
-      within k h = rw (word-at f hu hv hw k h) (by .small (getD u k 0) (getD v k 0) (getD w k 0) (hu .small k) (hv .small k) (hw .small k))
+      within k h = rw (word-of k h) (by .small (getD u k 0) (getD v k 0) (getD w k 0) (hu .small k) (hv .small k) (hw .small k))
 
       past : (k : ℕ) → bitmapWords ≤ k → getD (zip3 f u v w) k 0 < 2 ^ wordBits
       past k h =
-          let l : length (zip3 f u v w) ≤ k = omega (arith, zip3-size f hu hv hw) in
+          let l : length (zip3 f u v w) ≤ k = omega (arith, size-of) in
           rw (List·getD-eq-default (zip3 f u v w) 0 l) (omega arith)
 
   -- with the bits combined
@@ -100,7 +104,7 @@ module _ (f : ℕ → ℕ → ℕ → ℕ) (g : Bool → Bool → Bool → Bool)
   unfolding bit
   bit-zip3 b h =
       let k = b / 32 in
-      ap (λ (x : ℕ). isSet x (b % 32)) (word-at f hu hv hw k (omega arith))
+      ap (λ (x : ℕ). isSet x (b % 32)) (word-of k (omega arith))
       ∙ by .bits (getD u k 0) (getD v k 0) (getD w k 0) (b % 32) (hu .small k) (hv .small k) (hw .small k) (omega arith)
 
   -- and none from m on where the three have none

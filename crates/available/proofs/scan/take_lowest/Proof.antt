@@ -27,7 +27,9 @@ in-volume c =
     (c .next-available .ensures)
 
 loop-holds : tie.Need-loop-holds Inv-loop μ-loop
-loop-holds c = (search needs, refl, taken-none (c .before .pre))
+loop-holds c =
+    let p = c .before .pre in
+    (search needs, refl, taken-none (p .volume) (p .isCom) (p .isTam) (p .endOfCom) (p .endOfTam))
 
 next-available-requires : tie.Need-next-available-requires Inv-loop μ-loop
 next-available-requires c κs =

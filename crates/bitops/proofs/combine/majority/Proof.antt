@@ -57,20 +57,22 @@ loop-again : tie.Need-loop-again Inv-loop μ-loop
 loop-again c =
     let at-turn = c .before .before .before .before in
     let at-loop = at-turn .before in
-    let at-start = at-loop .before in
-    let maps = at-start .pre .1 in (
+    let a = at-loop .before .args in
+    let p = at-loop .before .pre in
+    let maps = p .1 in (
       search needs,
-      zip3-step majorityWord (at-start .args .out .now) (at-loop .loop .k) (maps .0) (maps .1 .0) (maps .1 .1) (at-start .pre .0)
-          (at-loop .loop .inv .1) (at-turn .loop-test .taken) (c .majority-word .ensures),
+      zip3-step majorityWord (a .sam .now) (a .«com» .now) (a .tam .now) (maps .0 .size) (maps .1 .0 .size) (maps .1 .1 .size)
+          (a .out .now) (at-loop .loop .k) (p .0) (at-loop .loop .inv .1) (at-turn .loop-test .taken) (c .majority-word .ensures),
     )
 
 returns : tie.Need-returns Inv-loop μ-loop
 returns c =
     let at-loop = c .before in
-    let at-start = at-loop .before in
-    let maps = at-start .pre .1 in
-    zip3-all majorityWord (at-start .args .out .now) (at-loop .loop .k) (maps .0) (maps .1 .0) (maps .1 .1) (at-start .pre .0)
-    (at-loop .loop .inv .1) (c .loop-test .left)
+    let a = at-loop .before .args in
+    let p = at-loop .before .pre in
+    let maps = p .1 in
+    zip3-all majorityWord (a .sam .now) (a .«com» .now) (a .tam .now) (maps .0 .size) (maps .1 .0 .size) (maps .1 .1 .size)
+    (a .out .now) (at-loop .loop .k) (p .0) (at-loop .loop .inv .1) (c .loop-test .left)
 
 pub majority-spec : {M : Type 1} → statement M
 majority-spec =

@@ -61,9 +61,11 @@ loop-again c =
     let p = at-loop .before .pre in
     let so = at-loop .loop .inv .1 in
     let k = at-loop .loop .k in
-    let is = zip3-at refreshWord (a .tam .now) k (p .1 .0) (p .1 .1) (p .0) (p .0 .size) so (at-turn .loop-test .taken) in (
+    let is = zip3-at refreshWord (a .old .now) (a .new .now) (a .tam .now) (p .1 .0 .size) (p .1 .1 .size) (p .0 .size)
+    (a .tam .now) k (p .0 .size) so (at-turn .loop-test .taken) in (
       search needs,
-      zip3-step refreshWord (a .tam .now) k (p .1 .0) (p .1 .1) (p .0) (p .0 .size) so (at-turn .loop-test .taken)
+      zip3-step refreshWord (a .old .now) (a .new .now) (a .tam .now) (p .1 .0 .size) (p .1 .1 .size) (p .0 .size)
+          (a .tam .now) k (p .0 .size) so (at-turn .loop-test .taken)
           (c .refresh-word .ensures ∙ ap (λ (x : ℕ). refreshWord (getD (a .old .now) k 0) (getD (a .new .now) k 0) x) is),
     )
 
@@ -72,7 +74,8 @@ returns c =
     let at-loop = c .before in
     let a = at-loop .before .args in
     let p = at-loop .before .pre in
-    zip3-all refreshWord (a .tam .now) (at-loop .loop .k) (p .1 .0) (p .1 .1) (p .0) (p .0 .size) (at-loop .loop .inv .1) (c .loop-test .left)
+    zip3-all refreshWord (a .old .now) (a .new .now) (a .tam .now) (p .1 .0 .size) (p .1 .1 .size) (p .0 .size)
+    (a .tam .now) (at-loop .loop .k) (p .0 .size) (at-loop .loop .inv .1) (c .loop-test .left)
 
 pub refresh-spec : {M : Type 1} → statement M
 refresh-spec =

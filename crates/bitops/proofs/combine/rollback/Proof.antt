@@ -62,9 +62,11 @@ loop-again c =
     let p = at-loop .before .pre in
     let so = at-loop .loop .inv .1 in
     let k = at-loop .loop .k in
-    let is = zip3-at rollbackWord (a .«com» .now) k (p .0) (p .1 .0) (p .1 .1) (p .0 .size) so (at-turn .loop-test .taken) in (
+    let is = zip3-at rollbackWord (a .«com» .now) (a .sam .now) (a .tam .now) (p .0 .size) (p .1 .0 .size) (p .1 .1 .size)
+    (a .«com» .now) k (p .0 .size) so (at-turn .loop-test .taken) in (
       search needs,
-      zip3-step rollbackWord (a .«com» .now) k (p .0) (p .1 .0) (p .1 .1) (p .0 .size) so (at-turn .loop-test .taken)
+      zip3-step rollbackWord (a .«com» .now) (a .sam .now) (a .tam .now) (p .0 .size) (p .1 .0 .size) (p .1 .1 .size)
+          (a .«com» .now) k (p .0 .size) so (at-turn .loop-test .taken)
           (c .majority-word .ensures ∙ ap (λ (x : ℕ). rollbackWord x (getD (a .sam .now) k 0) (getD (a .tam .now) k 0)) is),
     )
 
@@ -73,7 +75,8 @@ returns c =
     let at-loop = c .before in
     let a = at-loop .before .args in
     let p = at-loop .before .pre in
-    zip3-all rollbackWord (a .«com» .now) (at-loop .loop .k) (p .0) (p .1 .0) (p .1 .1) (p .0 .size) (at-loop .loop .inv .1) (c .loop-test .left)
+    zip3-all rollbackWord (a .«com» .now) (a .sam .now) (a .tam .now) (p .0 .size) (p .1 .0 .size) (p .1 .1 .size)
+    (a .«com» .now) (at-loop .loop .k) (p .0 .size) (at-loop .loop .inv .1) (c .loop-test .left)
 
 pub rollback-spec : {M : Type 1} → statement M
 rollback-spec =
