@@ -2,7 +2,7 @@
 -- TAM. Their numbers go to the first n places of the lent list, rising; later places stay."
 use Prim.Native.Nat.{ℕ, _≤_}
 use mathlib.Core.Path.{_≡_}
-use mathlib.Core.Bool.{Bool, true, _||_}
+use mathlib.Core.Bool.{true, _||_}
 use mathlib.Core.List.{List, _++_}
 use lib.ListN.{length, take, drop}
 use Rattle.bitmap.specs.Sizes.{maxBlocks}

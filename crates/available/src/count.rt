@@ -1,12 +1,12 @@
 // Counts of a bitmap's bits and of a volume's available blocks, a word at a time.
 ghost use mathlib.Core.Path.{_≡_};
-ghost use Prim.Native.Nat.{_+_, _*_, _≤_, _<_};
+ghost use Prim.Native.Nat.{_+_, _≤_, _<_};
 ghost use lib.ListN.{length};
-ghost use Rattle.bitmap.specs.Sizes.{maxBlocks, wordBits, wordsFor};
+ghost use Rattle.bitmap.specs.Sizes.{maxBlocks, wordsFor};
 ghost use Rattle.bitmap.specs.Bits.{IsBitmap};
 ghost use Rattle.bitmap.specs.Blocks.{availableBlocks};
 ghost use Rattle.bitmap.proofs.Laws.Count.{onesOf};
-ghost use Rattle.available.specs.Available.{availableFrom};
+ghost use Rattle.available.specs.Available.{countFrom};
 use crate::available::available_word;
 use bitmap::Bitmap;
 
@@ -28,7 +28,7 @@ fn count_word(sam: &[u32; 128], com: &[u32; 128], blocks: u32, k: usize) -> u32
     requires { ⌜ IsBitmap (now «com») ⌝ }
     requires { ⌜ blocks ≤ maxBlocks ⌝ }
     requires { ⌜ k < wordsFor blocks ⌝ }
-    ensures { λ r. ⌜ r + length (availableFrom blocks (now (sam .entry)) (now («com» .entry)) (wordBits * (k + 1))) ≡ length (availableFrom blocks (now (sam .entry)) (now («com» .entry)) (wordBits * k)) ⌝ }
+    ensures { λ r. ⌜ r + countFrom blocks (now (sam .entry)) (now («com» .entry)) (k + 1) ≡ countFrom blocks (now (sam .entry)) (now («com» .entry)) k ⌝ }
 {
     u32::count_ones(available_word(sam, com, blocks, k))
 }
@@ -40,7 +40,7 @@ fn count_words(sam: &[u32; 128], com: &[u32; 128], blocks: u32, lo: usize, hi: u
     requires { ⌜ blocks ≤ maxBlocks ⌝ }
     requires { ⌜ lo < hi ⌝ }
     requires { ⌜ hi ≤ wordsFor blocks ⌝ }
-    ensures { λ r. ⌜ r + length (availableFrom blocks (now (sam .entry)) (now («com» .entry)) (wordBits * hi)) ≡ length (availableFrom blocks (now (sam .entry)) (now («com» .entry)) (wordBits * lo)) ⌝ }
+    ensures { λ r. ⌜ r + countFrom blocks (now (sam .entry)) (now («com» .entry)) hi ≡ countFrom blocks (now (sam .entry)) (now («com» .entry)) lo ⌝ }
 {
     if hi - lo == 1 {
         return count_word(sam, com, blocks, lo);

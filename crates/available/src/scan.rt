@@ -39,7 +39,8 @@ pub fn take_lowest(
     count: u32,
 )
     requires { ⌜ CanTake blocks count (now sam) (now «com») (now tam) (now list) ⌝ }
-    ensures { λ _. ⌜ Takes blocks count (now (sam .entry)) (now («com» .entry)) (now (tam .entry)) (now (list .entry)) (now («com» .exit)) (now (tam .exit)) (now (list .exit)) ⌝ }
+    ensures { λ _. ⌜ Takes blocks count (now (sam .entry)) (now («com» .entry)) (now (tam .entry)) (now (list .entry))
+        (now («com» .exit)) (now (tam .exit)) (now (list .exit)) ⌝ }
 {
     let mut next = 0;
     for n in 0..count {

@@ -1,9 +1,9 @@
 -- The bits of a word and of a bitmap.
 -- Document 01, "The maps": "A map is 128 words of 32 bits. Block b is bit b mod 32 (bit 0 the lowest) of word b div 32;
 -- 1 means allocated. Bits from m on are 0."
-use Prim.Native.Nat.{ℕ, zero, suc, _+_, _-_, _*_, _/_, _%_, _^_, min, _<_}
+use Prim.Native.Nat.{ℕ, zero, suc, _+_, _-_, _/_, _%_, _^_, min, _<_}
 use mathlib.Core.Path.{_≡_}
-use mathlib.Core.Bool.{Bool, true, false, cond, _&&_}
+use mathlib.Core.Bool.{Bool, true, cond, _&&_}
 use mathlib.Core.List.{List, [], _∷_}
 use lib.ListN.{length, getD}
 use lib.Dec.{eqb, ltb}

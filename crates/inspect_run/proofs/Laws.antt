@@ -1,2 +1,2 @@
--- The sizes of what is lent.
+-- The sizes of a fixture.
 pub mod Shape

@@ -6,11 +6,11 @@ use crate::damage::pending_work;
 use crate::damage::sam_word;
 use crate::damage::slot_state;
 use crate::damage::tam_word;
-use crate::further::Further;
 use crate::fixture::Fixture;
 use crate::fixture::MAX_LENGTH;
 use crate::fixture::MAX_PLACES;
 use crate::fixture::Step;
+use crate::further::Further;
 
 // Word I of the disk becomes V.
 fn disk_word(mut fixture: Fixture, index: u32, word: u32) -> Step

@@ -1,4 +1,4 @@
-// The state between two lines: what the calls are lent.
+// The fixture: what the calls are lent, and what one line leaves to the next.
 ghost use Rattle.inspect_run.specs.Sized.{Sized};
 use allocator::format::DISK_WORDS;
 use model::error::Error;
@@ -18,7 +18,7 @@ pub(crate) struct Fixture {
     pub places: usize,
 }
 
-// What a line leaves: what is lent from then on, and the answer and value that are printed.
+// What a line leaves: the fixture from then on, and the answer and value that are printed.
 pub(crate) struct Step {
     pub fixture: Fixture,
     pub answer: u32,
@@ -39,7 +39,7 @@ impl Fixture {
         }
     }
 
-    // The same with another memory.
+    // The same disk and list with another memory.
     pub(crate) fn with_memory(self, memory: Memory) -> Fixture
         requires { ⌜ Sized self ⌝ }
         ensures { λ r. ⌜ Sized r ⌝ }

@@ -3,8 +3,8 @@
 mod alter;
 mod call;
 mod damage;
-mod further;
 mod fixture;
+mod further;
 mod line;
 mod lines;
 mod numbers;

@@ -3,15 +3,15 @@ ghost use Rattle.printing.specs.Waits.{Waits};
 ghost use Rattle.inspect_run.specs.Sized.{Sized};
 use crate::alter::alter;
 use crate::call::call;
-use crate::further;
 use crate::fixture::Fixture;
 use crate::fixture::Step;
+use crate::further;
 use crate::show::put_fixture;
 use check::same;
 use model::line::Parsed;
 use printing::place;
 
-// What a line leaves: what is lent, and the end of what waits to be written.
+// What a line leaves: the fixture, and the end of what waits to be written.
 pub(crate) struct Printed {
     pub fixture: Fixture,
     pub at: usize,
@@ -37,8 +37,14 @@ fn put_answer(out: &mut [u8], at: usize, number: u32, answer: u32, value: u32) -
     bench_line::print_answer(out, next, number, answer, value)
 }
 
-// Answers a line, and shows all that is lent if it asks for it.
-pub(crate) fn answer(line: &[u8], number: u32, fixture: Fixture, out: &mut [u8], at: usize) -> Printed
+// Answers a line, and shows the fixture if it asks for it.
+pub(crate) fn answer(
+    line: &[u8],
+    number: u32,
+    fixture: Fixture,
+    out: &mut [u8],
+    at: usize,
+) -> Printed
     requires { ⌜ Sized fixture ⌝ }
     requires { ⌜ Waits (now out) at ⌝ }
     ensures { λ r. ⌜ Sized (r .fixture) ⌝ }

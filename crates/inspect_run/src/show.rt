@@ -1,4 +1,4 @@
-// What `show` prints: all that is lent, words that are 0 left out of bitmaps and disk.
+// What `show` prints: the fixture, words that are 0 left out of bitmaps and disk.
 ghost use Rattle.printing.specs.Waits.{Waits};
 ghost use Rattle.inspect_run.specs.Sized.{Sized};
 use crate::fixture::Fixture;
@@ -173,7 +173,7 @@ fn put_places(out: &mut [u8], at: usize, fixture: Fixture) -> usize
     put_list(out, next, &list[..places])
 }
 
-// All of it.
+// The whole fixture.
 pub(crate) fn put_fixture(out: &mut [u8], at: usize, fixture: Fixture) -> usize
     requires { ⌜ Waits (now out) at ⌝ }
     requires { ⌜ Sized fixture ⌝ }

@@ -1,25 +1,25 @@
 -- The available blocks of a word: which bits they are, and how many.
 use Prim.Native.Nat.{ℕ, zero, suc, _+_, _-_, _*_, _/_, _%_, _^_, _≤_, _<_, min}
-use native.Mathlib.Nat.{sub-zero, add-zero, add-suc, suc-add, le-step, lt-of-le-of-lt, mod-eq-of-lt}
-use native.Mathlib.Numerals.{add-one}
+use native.Mathlib.Nat.{sub-zero, add-zero, le-step, lt-of-le-of-lt, mod-eq-of-lt}
 use native.Mathlib.Omega.{arith}
 use mathlib.Core.Path.{_≡_, refl, sym, ap, ap₂, _∙_}
 use mathlib.Core.Logic.{⊎-elim}
 use mathlib.Core.Bool.{Bool, true, false, not, cond, _&&_, _||_, and-true, and-false}
-use mathlib.Core.List.{List, [], _∷_}
+use mathlib.Core.List.{List, _∷_}
 use lib.ListN.{length, getD}
 use lib.Arith.{lt-one}
-use lib.Dec.{eqb, ltb}
+use lib.Dec.{ltb}
 use lib.Bits.{bitAnd, bitOr, and-le-l, and-mask, or-lt}
 use lib.Count.{ones, ones-step}
 use lib.Pow.{pow-pos, ones-lt, ones-sub-lt}
 use borrow.Author.Tests.{lt-ltb, le-ltb}
-use Rattle.bitmap.specs.Bits.{isSet, bit, IsBitmap}
+use Rattle.bitmap.specs.Sizes.{wordBits}
+use Rattle.bitmap.specs.Bits.{isSet, IsBitmap}
 use Rattle.bitmap.specs.Blocks.{from, isAvailable}
 use Rattle.bitmap.proofs.Laws.Word.{isSet-zero, isSet-small, isSet-half, half-and-low, isSet-and, isSet-or, isSet-not}
 use Rattle.bitmap.proofs.Laws.Bits.{below-or-from, bit-word}
 use Rattle.bitmap.proofs.Laws.Blocks.{from-step, from-end, from-same}
-use Rattle.available.specs.Available.{availableWord, availableFrom}
+use Rattle.available.specs.Available.{availableWord, availableFrom, countFrom}
 use Rattle.bitops.proofs.Laws.Block.{shift-one}
 
 -- ---- words
@@ -40,7 +40,8 @@ not-or true b = refl
 not-or false b = refl
 
 -- the bits that neither word has
-isSet-neither : (s c i : ℕ) → s < 2 ^ 32 → c < 2 ^ 32 → i < 32 → isSet (2 ^ 32 - 1 - bitOr s c) i ≡ (not (isSet s i) && not (isSet c i))
+isSet-neither : (s c i : ℕ) → s < 2 ^ wordBits → c < 2 ^ wordBits → i < wordBits
+    → isSet (2 ^ 32 - 1 - bitOr s c) i ≡ (not (isSet s i) && not (isSet c i))
 isSet-neither s c i hs hc l =
     isSet-not 32 (bitOr s c) i (or-lt 32 s c hs hc) l ∙ ap not (isSet-or s c i) ∙ not-or (isSet s i) (isSet c i)
 
@@ -66,7 +67,7 @@ module _ (m : ℕ) (sam «com» : List ℕ) (k : ℕ) where
       (and-mask (2 ^ 32 - 1 - bitOr (getD sam k 0) (getD «com» k 0)) 32
       ∙ mod-eq-of-lt (ones-sub-lt 32 (bitOr (getD sam k 0) (getD «com» k 0)))))
 
-  pub availableWord-lt : availableWord m sam «com» k < 2 ^ 32
+  pub availableWord-lt : availableWord m sam «com» k < 2 ^ wordBits
   unfolding availableWord
   availableWord-lt =
       lt-of-le-of-lt (and-le-l (2 ^ 32 - 1 - bitOr (getD sam k 0) (getD «com» k 0)) (2 ^ min 32 (m - 32 * k) - 1))
@@ -139,7 +140,7 @@ module _ (test : ℕ → Bool) (m : ℕ) (none : (b : ℕ) → m ≤ b → test 
 
 -- the available blocks of word k, and those from the next word on
 pub available-count : (m : ℕ) (sam «com» : List ℕ) (k : ℕ) → IsBitmap sam → IsBitmap «com»
-    → ones (availableWord m sam «com» k) + length (availableFrom m sam «com» (32 * (k + 1))) ≡ length (availableFrom m sam «com» (32 * k))
+    → ones (availableWord m sam «com» k) + countFrom m sam «com» (k + 1) ≡ countFrom m sam «com» k
 available-count m sam «com» k hs hc =
     let e : 32 * (k + 1) ≡ 32 * k + 32 = omega arith in
     rw (availableFrom-in m sam «com» (32 * (k + 1)), availableFrom-in m sam «com» (32 * k), e)

@@ -5,12 +5,13 @@ use native.Mathlib.Omega.{arith}
 use mathlib.Core.Path.{_≡_, refl, sym, ap, _∙_}
 use mathlib.Core.Logic.{⊎-elim}
 use mathlib.Core.Bool.{Bool, true, false, cond, false≢true}
-use mathlib.Core.List.{List, [], _∷_}
+use mathlib.Core.List.{List, _∷_}
 use lib.ListN.{length, getD}
 use lib.Dec.{eqb}
 use lib.Count.{trailingZeros, under}
 use lib.Pow.{shr-shr, shr-le}
 use borrow.Author.Tests.{eq-eqb}
+use Rattle.bitmap.specs.Sizes.{wordBits}
 use Rattle.bitmap.specs.Bits.{isSet, bit, IsBitmap}
 use Rattle.bitmap.specs.Blocks.{scan, from, isAvailable}
 use Rattle.bitmap.proofs.Laws.Word.{isSet-low, isSet-half, isSet-zero, isSet-small}
@@ -68,7 +69,7 @@ next-end m sam «com» p h = ap (λ (l : List ℕ). getD l 0 m) (from-end (isAva
 abbrev restOf : ℕ → List ℕ → List ℕ → ℕ → ℕ
 restOf m sam «com» p = availableWord m sam «com» (p / 32) / 2 ^ (p % 32)
 
-module _ (m : ℕ) (sam «com» : List ℕ) (p : ℕ) (hs : IsBitmap sam) (hc : IsBitmap «com») where
+module _ (m : ℕ) {sam «com» : List ℕ} (p : ℕ) (hs : IsBitmap sam) (hc : IsBitmap «com») where
   rest-bit : (i : ℕ) → p % 32 + i < 32 → isSet (restOf m sam «com» p) i ≡ isAvailableIn m sam «com» (p + i)
   rest-bit i h =
       isSet-shifted (availableWord m sam «com» (p / 32)) (p % 32) i
@@ -127,12 +128,13 @@ module _ (m : ℕ) (sam «com» : List ℕ) (p : ℕ) (hs : IsBitmap sam) (hc : 
         found-available
         ∙ ap (λ (l : List ℕ). (p + t) ∷ l) (sym (availableFrom-in m sam «com» (suc (p + t))))
 
-  rest-lt : restOf m sam «com» p < 2 ^ 32
+  rest-lt : restOf m sam «com» p < 2 ^ wordBits
   rest-lt = lt-of-le-of-lt (shr-le (availableWord m sam «com» (p / 32)) (p % 32)) (availableWord-lt m sam «com» (p / 32))
 
   -- by the zeros below that bit
-  module _ (word : ℕ) (is : word ≡ availableWord m sam «com» (p / 32)) where
-    pub word-none : word / 2 ^ (p % 32) ≡ 0 → availableFrom m sam «com» p ≡ availableFrom m sam «com» ((p / 32 + 1) * 32)
+  module _ {word : ℕ} (is : word ≡ availableWord m sam «com» (p / 32)) where
+    pub word-none : word / 2 ^ (p % 32) ≡ 0
+        → availableFrom m sam «com» p ≡ availableFrom m sam «com» ((p / 32 + 1) * 32)
     word-none e = next-word (rw is at e)
 
     pub word-found : (word / 2 ^ (p % 32) ≡ 0 → ⊥)
@@ -176,13 +178,3 @@ from-rest test m p x rest e = ⊎-elim within past (below-or-from p m)
 
     past : m ≤ p → rest ≡ scan test (suc x) (m - suc x)
     past h = absurd (omega (arith, ap length (sym (from-end test m p h) ∙ e)))
-
--- the next available block and those behind it
-pub next-found : (m : ℕ) (sam «com» : List ℕ) (p : ℕ) → nextAvailable m sam «com» p < m
-    → availableFrom m sam «com» p ≡ nextAvailable m sam «com» p ∷ availableFrom m sam «com» (suc (nextAvailable m sam «com» p))
-unfolding nextAvailable
-next-found m sam «com» p h = go (availableFrom m sam «com» p) refl h
-  where
-    go : (bs : List ℕ) → availableFrom m sam «com» p ≡ bs → getD bs 0 m < m → bs ≡ getD bs 0 m ∷ availableFrom m sam «com» (suc (getD bs 0 m))
-    go [] e l = absurd (omega arith)
-    go (b ∷ bs) e l = ap (λ (r : List ℕ). b ∷ r) (from-rest (isAvailable sam «com») m p b bs e)

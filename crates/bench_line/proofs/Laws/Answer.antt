@@ -20,11 +20,13 @@ module _ (a b c d e f g : List ℕ) where
   pairs : a ++ b ++ (c ++ d) ++ (e ++ f) ++ g ≡ a ++ b ++ c ++ d ++ e ++ f ++ g
   pairs = simp append-assoc
 
-  length-seven : length (a ++ b ++ c ++ d ++ e ++ f ++ g) ≡ length a + length b + length c + length d + length e + length f + length g
+  length-seven : length (a ++ b ++ c ++ d ++ e ++ f ++ g)
+      ≡ length a + length b + length c + length d + length e + length f + length g
   length-seven = simp length-append
 
 module _ (call answer value : ℕ) where
-  answer-fields : field callField call ++ field answerField answer ++ field valueField value ++ (newline ∷ []) ≡ answerLine call answer value
+  answer-fields : field callField call ++ field answerField answer ++ field valueField value ++ (newline ∷ [])
+      ≡ answerLine call answer value
   unfolding answerLine
   answer-fields = pairs callField (decimal call) answerField (decimal answer) valueField (decimal value) (newline ∷ [])
 
@@ -36,17 +38,12 @@ module _ (call answer value : ℕ) where
       (omega (arith, decimal-length call, decimal-length answer, decimal-length value))
 
   -- the fields and byte 10, each put behind the last
-  module _ (l l₁ l₂ l₃ l₄ : List ℕ) (at n₁ n₂ n₃ n₄ : ℕ) (inside : at ≤ length l) where
+  module _ {l l₁ l₂ l₃ l₄ : List ℕ} {at n₁ n₂ n₃ n₄ : ℕ} (inside : at ≤ length l) where
     pub put-answer : Put l at (field callField call) l₁ n₁
         → Put l₁ n₁ (field answerField answer) l₂ n₂
         → Put l₂ n₂ (field valueField value) l₃ n₃
         → Put l₃ n₃ (newline ∷ []) l₄ n₄
         → Put l at (answerLine call answer value) l₄ n₄
     put-answer p₁ p₂ p₃ p₄ =
-        let a = field callField call in
-        let b = field answerField answer in
-        let c = field valueField value in
         subst (λ (bytes : List ℕ). Put l at bytes l₄ n₄) answer-fields
-        (put-then l l₃ l₄ at n₃ n₄ (a ++ b ++ c) (newline ∷ []) inside
-        (put-then l l₂ l₃ at n₂ n₃ (a ++ b) c inside (put-then l l₁ l₂ at n₁ n₂ a b inside p₁ p₂) p₃)
-        p₄)
+        (put-then inside (put-then inside (put-then inside p₁ p₂) p₃) p₄)

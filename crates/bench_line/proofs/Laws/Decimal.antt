@@ -9,7 +9,7 @@ use lib.ListN.{length, set, length-append}
 use lib.Dec.{ltb, lit<, lit≤}
 use borrow.Author.Tests.{lt-ltb, le-ltb}
 use Rattle.model.specs.Line.{decimalF, decimal}
-use Rattle.bench_line.specs.Put.{Put}
+use Rattle.bench_line.specs.Put.{Put, maxDecimal}
 use Rattle.bench_line.proofs.Laws.Put.{put-one, put-then}
 
 -- as many digits as asked at most
@@ -18,13 +18,14 @@ unfolding decimalF
 decimal-short zero n = lit≤ tt
 decimal-short (suc fuel) n = go (ltb n 10) (decimal-short fuel (n / 10))
   where
-    go : (test : Bool) → length (decimalF fuel (n / 10)) ≤ fuel → length (cond test ((48 + n) ∷ []) (decimalF fuel (n / 10) ++ ((48 + n % 10) ∷ []))) ≤ suc fuel
+    go : (test : Bool) → length (decimalF fuel (n / 10)) ≤ fuel
+        → length (cond test ((48 + n) ∷ []) (decimalF fuel (n / 10) ++ ((48 + n % 10) ∷ []))) ≤ suc fuel
     go true h = omega arith
     go false h = rw (length-append (decimalF fuel (n / 10)) ((48 + n % 10) ∷ [])) (omega arith)
 
-pub decimal-length : (n : ℕ) → length (decimal n) ≤ 10
+pub decimal-length : (n : ℕ) → length (decimal n) ≤ maxDecimal
 unfolding decimal
-decimal-length n = decimal-short 10 n
+decimal-length n = decimal-short maxDecimal n
 
 -- a number below 10 ^ (fuel + 1) has no more digits for more fuel
 more-fuel : (fuel n : ℕ) → n < 10 ^ suc fuel → decimalF (suc fuel) n ≡ decimalF (suc (suc fuel)) n
@@ -60,13 +61,8 @@ digits-length n h fits = ap length (decimal-digits n h fits) ∙ length-append (
 pub put-digit : (l : List ℕ) (at n : ℕ) → n < 10 → at < length l → Put l at (decimal n) (set l at (48 + n)) (at + 1)
 put-digit l at n h room = rw (decimal-digit n h) (put-one l at (48 + n) room)
 
-pub put-digits : (l l₁ : List ℕ) (at last n : ℕ)
-    → 10 ≤ n
-    → n < 2 ^ 32
-    → at ≤ length l
-    → last < length l₁
+pub put-digits : {l l₁ : List ℕ} {at last : ℕ} (n : ℕ) → 10 ≤ n → n < 2 ^ 32 → at ≤ length l → last < length l₁
     → Put l at (decimal (n / 10)) l₁ last
     → Put l at (decimal n) (set l₁ last (48 + n % 10)) (last + 1)
-put-digits l l₁ at last n h fits inside room front =
-    rw (decimal-digits n h fits)
-    (put-then l l₁ (set l₁ last (48 + n % 10)) at last (last + 1) (decimal (n / 10)) ((48 + n % 10) ∷ []) inside front (put-one l₁ last (48 + n % 10) room))
+put-digits {l} {l₁} {at} {last} n h fits inside room front =
+    rw (decimal-digits n h fits) (put-then inside front (put-one l₁ last (48 + n % 10) room))

@@ -1,7 +1,7 @@
 -- The digits at a place of a line, one by one.
 use Prim.Native.Nat.{ℕ, _+_, _-_, _*_, _^_, _≤_, _<_}
 use mathlib.Core.Path.{_≡_, refl, sym, ap, _∙_}
-use mathlib.Core.Bool.{Bool, true, false, cond, _&&_}
+use mathlib.Core.Bool.{Bool, true, false, cond, and-false}
 use mathlib.Core.List.{List, [], _∷_}
 use native.Mathlib.Nat.{le-refl, lt-of-lt-of-le, pow-succ', pow-le-pow-right}
 use native.Mathlib.Numerals.{add-one}
@@ -14,10 +14,6 @@ use Rattle.model.proofs.Laws.Writes.{and-first, and-second, and-both}
 use Rattle.model.specs.Line.{Digits, isDigit, digits, digitsInForm}
 use Rattle.bench_line.specs.Number.{digitAt, NumberRead}
 
-and-false : (b : Bool) → (b && false) ≡ false
-and-false true = refl
-and-false false = refl
-
 -- the digits in hand, and what follows them
 abbrev pub digitsOf : ℕ → ℕ → List ℕ → Digits
 digitsOf v n rest = record { value = v; count = n; rest = rest }
@@ -26,11 +22,12 @@ digitsOf v n rest = record { value = v; count = n; rest = rest }
 pub count-grows : (bytes : List ℕ) (v n : ℕ) → n ≤ digits v n bytes .count
 unfolding digits
 count-grows [] v n = le-refl n
-count-grows (b ∷ bytes) v n = go (isDigit b) (count-grows bytes (10 * v + (b - 48)) (n + 1))
+count-grows (b ∷ bytes) v n =
+    go (isDigit b) (digits (10 * v + (b - 48)) (n + 1) bytes) (count-grows bytes (10 * v + (b - 48)) (n + 1))
   where
-    go : (test : Bool) → n + 1 ≤ digits (10 * v + (b - 48)) (n + 1) bytes .count → n ≤ cond test (digits (10 * v + (b - 48)) (n + 1) bytes) (digitsOf v n (b ∷ bytes)) .count
-    go true h = omega arith
-    go false h = le-refl n
+    go : (test : Bool) (more : Digits) → n + 1 ≤ more .count → n ≤ cond test more (digitsOf v n (b ∷ bytes)) .count
+    go true more h = omega arith
+    go false more h = le-refl n
 
 module _ (line : List ℕ) (next : ℕ) where
   -- the three tests of a digit
@@ -73,7 +70,8 @@ module _ (line : List ℕ) (next : ℕ) where
     digit-high = leb-true (getD line next 0) 57 (and-second (leb 48 (getD line next 0)) (leb (getD line next 0) 57) digit-is)
 
     -- a digit: one more
-    pub digits-more : (v n : ℕ) → digits v n (drop next line) ≡ digits (10 * v + (getD line next 0 - 48)) (n + 1) (drop (next + 1) line)
+    pub digits-more : (v n : ℕ) → digits v n (drop next line)
+        ≡ digits (10 * v + (getD line next 0 - 48)) (n + 1) (drop (next + 1) line)
     unfolding digits
     digits-more v n = rw (add-one next, drop-cons line next 0 digit-in, digit-is)
 
@@ -114,7 +112,7 @@ none-yet line at h =
       same = ap (λ (n : ℕ). digits 0 n (drop at line)) e;
     }
 
-module _ (line : List ℕ) (at value next : ℕ) (far : SoFar line at value next) where
+module _ {line : List ℕ} {at value next : ℕ} (far : SoFar line at value next) where
   -- before a fifth digit
   pub four-digits : (next - at ≡ 5 → ⊥) → value < 10000
   four-digits h = lt-of-lt-of-le (far .small) (pow-le-pow-right {n = 10} (lit< tt) {i = next - at} {j = 4} (omega (arith, far .most)))
@@ -128,8 +126,13 @@ module _ (line : List ℕ) (at value next : ℕ) (far : SoFar line at value next
           from = omega (arith, far .from);
           most = omega (arith, far .most, far .from);
           within = omega (arith, digit-in line next digit);
-          small = rw (e, add-one (next - at), pow-succ' 10 (next - at)) (omega (arith, far .small, digit-high line next digit, digit-low line next digit));
-          same = far .same ∙ digits-more line next digit value (next - at) ∙ ap (λ (n : ℕ). digits (10 * value + (getD line next 0 - 48)) n (drop (next + 1) line)) (sym e);
+          small =
+              rw (e, add-one (next - at), pow-succ' 10 (next - at))
+              (omega (arith, far .small, digit-high line next digit, digit-low line next digit));
+          same =
+              far .same
+              ∙ digits-more line next digit value (next - at)
+              ∙ ap (λ (n : ℕ). digits (10 * value + (getD line next 0 - 48)) n (drop (next + 1) line)) (sym e);
         }
 
     -- a sixth

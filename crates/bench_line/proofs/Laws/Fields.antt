@@ -18,30 +18,34 @@ pub no-count-field : (op : Op) (slot : ℕ) → numberField op slot none ≡ Par
 unfolding numberField
 no-count-field op slot = refl
 
-module _ (op : Op) (line : List ℕ) (at : ℕ) where
-  -- no number
-  module _ (e : digitsInForm (digits 0 0 (drop at line)) ≡ false) where
-    pub no-slot : slotNumber op (some (drop at line)) ≡ Parsed.Malformed
-    unfolding slotNumber
-    no-slot = rw e
+-- no number
+module _ (op : Op) (line : List ℕ) (at : ℕ) (e : digitsInForm (digits 0 0 (drop at line)) ≡ false) where
+  pub no-slot : slotNumber op (some (drop at line)) ≡ Parsed.Malformed
+  unfolding slotNumber
+  no-slot = rw e
 
-    pub no-n : (slot : ℕ) → numberField op slot (some (drop at line)) ≡ Parsed.Malformed
-    unfolding numberField
-    no-n slot = rw e
+  pub no-n : (slot : ℕ) → numberField op slot (some (drop at line)) ≡ Parsed.Malformed
+  unfolding numberField
+  no-n slot = rw e
 
-  module _ (value next : ℕ) (read : NumberRead line at value next) where
-    -- the slot, and what follows it
-    pub slot-read : slotNumber op (some (drop at line)) ≡ numberField op value (afterPrefix countField (drop next line))
-    unfolding slotNumber
-    slot-read = rw (read .inForm, read .valueIs, read .restIs)
+-- the call that a line's three fields make
+abbrev callOf : Op → ℕ → ℕ → Parsed
+callOf op slot n = Parsed.Call (record { op = op; slot = slot; n = n })
 
+module _ (op : Op) {line : List ℕ} {at value next : ℕ} (read : NumberRead line at value next) where
+  -- the slot, and what follows it
+  pub slot-read : slotNumber op (some (drop at line)) ≡ numberField op value (afterPrefix countField (drop next line))
+  unfolding slotNumber
+  slot-read = rw (read .inForm, read .valueIs, read .restIs)
+
+  module _ (slot : ℕ) where
     -- n, and the line's end
-    n-read : (slot : ℕ) → numberField op slot (some (drop at line)) ≡ cond (eqb (length line - next) 0) (Parsed.Call (record { op = op; slot = slot; n = value })) Parsed.Malformed
+    n-read : numberField op slot (some (drop at line)) ≡ cond (eqb (length line - next) 0) (callOf op slot value) Parsed.Malformed
     unfolding numberField
-    n-read slot = rw (read .inForm, read .valueIs, read .restIs, length-drop next line)
+    n-read = rw (read .inForm, read .valueIs, read .restIs, length-drop next line)
 
-    pub n-last : (slot : ℕ) → next ≡ length line → numberField op slot (some (drop at line)) ≡ Parsed.Call (record { op = op; slot = slot; n = value })
-    n-last slot e = n-read slot ∙ rw (eq-eqb (length line - next) 0 (omega arith))
+    pub n-last : next ≡ length line → numberField op slot (some (drop at line)) ≡ callOf op slot value
+    n-last e = n-read ∙ rw (eq-eqb (length line - next) 0 (omega arith))
 
-    pub n-not-last : (slot : ℕ) → (next ≡ length line → ⊥) → numberField op slot (some (drop at line)) ≡ Parsed.Malformed
-    n-not-last slot ne = n-read slot ∙ rw (ne-eqb (length line - next) 0 (omega (arith, read .within)))
+    pub n-not-last : (next ≡ length line → ⊥) → numberField op slot (some (drop at line)) ≡ Parsed.Malformed
+    n-not-last ne = n-read ∙ rw (ne-eqb (length line - next) 0 (omega (arith, read .within)))

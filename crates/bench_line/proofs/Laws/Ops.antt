@@ -55,7 +55,8 @@ unfolding parseOp opElse
 parse-with [] b rest = refl
 parse-with (op ∷ later) b rest = go (eqb (letter op) b) refl (parse-with later b rest)
   where
-    go : (same : Bool) → eqb (letter op) b ≡ same → parseOp later (b ∷ rest) ≡ parseOp (opsWith b later) (b ∷ rest) → parseOp (op ∷ later) (b ∷ rest) ≡ parseOp (cond same (op ∷ opsWith b later) (opsWith b later)) (b ∷ rest)
+    go : (same : Bool) → eqb (letter op) b ≡ same → parseOp later (b ∷ rest) ≡ parseOp (opsWith b later) (b ∷ rest)
+        → parseOp (op ∷ later) (b ∷ rest) ≡ parseOp (cond same (op ∷ opsWith b later) (opsWith b later)) (b ∷ rest)
     go true e ih = ap (opElse op (b ∷ rest)) ih
     go false e ih = op-missing op (opWord op ++ slotField) (b ∷ rest) (parseOp later (b ∷ rest)) refl (other-letter op b rest e) ∙ ih
 
@@ -65,7 +66,8 @@ unfolding ops parseOp afterPrefix
 at-end line h = rw (drop-of-length-le line h)
 
 -- "op=" and a letter
-pub at-letter : (line : List ℕ) (b : ℕ) → 3 < length line → getD line 3 0 ≡ b → parseOp ops (drop 3 line) ≡ parseOp (opsWith b ops) (drop 3 line)
+pub at-letter : (line : List ℕ) (b : ℕ) → 3 < length line → getD line 3 0 ≡ b
+    → parseOp ops (drop 3 line) ≡ parseOp (opsWith b ops) (drop 3 line)
 at-letter line b inside e =
     let letters : drop 3 line ≡ b ∷ drop 4 line = drop-cons line 3 0 inside ∙ ap (λ (first : ℕ). first ∷ drop 4 line) e in
     rw letters (parse-with ops b (drop 4 line))

@@ -33,7 +33,8 @@ unfolding afterPrefix
 whole-word word bytes i h = rw (drop-of-length-le word h)
 
 module _ (word line : List ℕ) (i j : ℕ) (in-word : i < length word) (in-line : j < length line) where
-  next-bytes : afterPrefix (drop i word) (drop j line) ≡ cond (eqb (getD word i 0) (getD line j 0)) (afterPrefix (drop (i + 1) word) (drop (j + 1) line)) none
+  next-bytes : afterPrefix (drop i word) (drop j line)
+      ≡ cond (eqb (getD word i 0) (getD line j 0)) (afterPrefix (drop (i + 1) word) (drop (j + 1) line)) none
   unfolding afterPrefix
   next-bytes = rw (add-one i, add-one j, drop-cons word i 0 in-word, drop-cons line j 0 in-line)
 
@@ -58,11 +59,14 @@ module _ (line : List ℕ) (at : ℕ) (word : List ℕ) where
   pub none-matched : Matched line at word 0
   none-matched = record { most = omega arith; same = ap (λ (k : ℕ). afterPrefix word (drop k line)) (sym (add-zero at)) }
 
-  module _ (i : ℕ) (matched : Matched line at word i) where
+  module _ {i : ℕ} (matched : Matched line at word i) where
     pub one-more : i < length word → at + i < length line → getD line (at + i) 0 ≡ getD word i 0 → Matched line at word (i + 1)
     one-more in-word in-line e = record {
       most = omega arith;
-      same = matched .same ∙ next-same word line i (at + i) in-word in-line e ∙ ap (λ (k : ℕ). afterPrefix (drop (i + 1) word) (drop k line)) (add-assoc at i 1);
+      same =
+          matched .same
+          ∙ next-same word line i (at + i) in-word in-line e
+          ∙ ap (λ (k : ℕ). afterPrefix (drop (i + 1) word) (drop k line)) (add-assoc at i 1);
     }
 
     pub differs : i < length word → at + i < length line → (getD line (at + i) 0 ≡ getD word i 0 → ⊥) → StartsWith line at word false
@@ -77,7 +81,7 @@ module _ (line : List ℕ) (at : ℕ) (word : List ℕ) where
         }
 
 -- what the answer says
-module _ (line : List ℕ) (at : ℕ) (word : List ℕ) (r : Bool) (starts : StartsWith line at word r) where
+module _ {line : List ℕ} {at : ℕ} {word : List ℕ} {r : Bool} (starts : StartsWith line at word r) where
   pub found : r ≡ true → afterPrefix word (drop at line) ≡ some (drop (at + length word) line)
   found e = starts .after ∙ ap (λ (b : Bool). cond b (some (drop (at + length word) line)) none) e
 

@@ -12,18 +12,23 @@ use Rattle.bench_line.specs.Put.{Put}
 pub put-one : (l : List ℕ) (at b : ℕ) → at < length l → Put l at (b ∷ []) (set l at b) (at + 1)
 put-one l at b h = record {
   nextIs = refl;
-  afterIs = set-split l at b h ∙ sym (append-snoc (take at l) b (drop (suc at) l)) ∙ ap (λ (n : ℕ). take at l ++ (b ∷ []) ++ drop n l) (sym (add-one at));
+  afterIs =
+      set-split l at b h
+      ∙ sym (append-snoc (take at l) b (drop (suc at) l))
+      ∙ ap (λ (n : ℕ). take at l ++ (b ∷ []) ++ drop n l) (sym (add-one at));
 }
 
 -- a whole copy
-pub put-paste : (l : List ℕ) (at : ℕ) (bytes : List ℕ) (n : ℕ) (after : List ℕ) → n ≡ length bytes → after ≡ paste l at bytes n → Put l at bytes after (at + n)
+pub put-paste : (l : List ℕ) (at : ℕ) (bytes : List ℕ) (n : ℕ) (after : List ℕ) → n ≡ length bytes → after ≡ paste l at bytes n
+    → Put l at bytes after (at + n)
 put-paste l at bytes n after e copied = record {
   nextIs = ap (λ (k : ℕ). at + k) e;
   afterIs = copied ∙ ap (λ (front : List ℕ). take at l ++ front ++ drop (at + n) l) (ap (λ (k : ℕ). take k bytes) e ∙ take-length bytes);
 }
 
 -- bytes after bytes
-module _ (l l₁ l₂ : List ℕ) (at n₁ n₂ : ℕ) (a b : List ℕ) (inside : at ≤ length l) (first : Put l at a l₁ n₁) (second : Put l₁ n₁ b l₂ n₂) where
+module _ {l l₁ l₂ a b : List ℕ} {at n₁ n₂ : ℕ} (inside : at ≤ length l)
+    (first : Put l at a l₁ n₁) (second : Put l₁ n₁ b l₂ n₂) where
   front-length : length (take at l ++ a) ≡ n₁
   front-length = length-append (take at l) a ∙ ap (λ (k : ℕ). k + length a) (length-take-le at l inside) ∙ sym (first .nextIs)
 

@@ -2,7 +2,6 @@
 use mathlib.Core.Path.{sym, _∙_}
 use lib.ListN.{drop}
 use borrow.Author.Needs.{needs}
-use Rattle.model.specs.Line.{opField}
 use Rattle.bench_line.proofs.Laws.Prefix.{found, missing}
 use Rattle.bench_line.proofs.Laws.Line.{long-line, no-op-field, op-field}
 use Rattle.bench_line.proofs.parse.Statement.{statement}
@@ -26,14 +25,14 @@ returns-2 c =
     let e = w .before .before in
     let line = e .before .before .args .line .now in
     c .parse-op .ensures
-    ∙ sym (op-field line (e .if1 .left) (drop 3 line) (found line 0 opField (w .starts-with .result) (w .starts-with .ensures) (c .before .if2 .taken)))
+    ∙ sym (op-field line (e .if1 .left) (drop 3 line) (found (w .starts-with .ensures) (c .before .if2 .taken)))
 
 returns-3 : tie.Need-returns-3
 returns-3 c =
     let w = c .before in
     let e = w .before .before in
     let line = e .before .before .args .line .now in
-    sym (no-op-field line (e .if1 .left) (missing line 0 opField (w .starts-with .result) (w .starts-with .ensures) (c .if2 .left)))
+    sym (no-op-field line (e .if1 .left) (missing (w .starts-with .ensures) (c .if2 .left)))
 
 pub parse-spec : {M : Type 1} → statement M
 parse-spec =

@@ -60,25 +60,8 @@ returns c =
     let r = v .before .before .before .before .before in
     let p = r .before .before .before .before .before in
     let s = p .before .before .before .before in
-    put-answer
-    (s .args .call)
-    (s .args .answer)
-    (s .args .value)
-    (s .args .out .now)
-    (p .put-field .last .0)
-    (r .put-field2 .last .0)
-    (v .put-field3 .last .0)
-    (w .put-bytes .last .0)
-    (s .args .at)
-    (p .put-field .result)
-    (r .put-field2 .result)
-    (v .put-field3 .result)
-    (w .put-bytes .result)
-    (omega (arith, s .pre))
-    (p .put-field .ensures)
-    (r .put-field2 .ensures)
-    (v .put-field3 .ensures)
-    (w .put-bytes .ensures)
+    put-answer (s .args .call) (s .args .answer) (s .args .value) (omega (arith, s .pre))
+    (p .put-field .ensures) (r .put-field2 .ensures) (v .put-field3 .ensures) (w .put-bytes .ensures)
 
 pub print-answer-spec : {M : Type 1} → statement M
 print-answer-spec =

@@ -11,6 +11,7 @@ use lib.Seq.{ext-getD}
 use lib.Dec.{ltb}
 use lib.Pow.{pow-pos, pow-mono}
 use borrow.Author.Tests.{ltb-true, ltb-false, lt-ltb}
+use Rattle.bitmap.specs.Sizes.{maxBlocks, wordBits, bitmapWords}
 use Rattle.bitmap.specs.Bits.{isSet, bit, wordOf, wordsOf, bitmapOf, noBitsFrom, IsBitmap}
 use Rattle.bitmap.proofs.Laws.Word.{isSet-zero, isSet-small, small-isSet, word-ext, wordOf-lt, isSet-wordOf}
 
@@ -41,21 +42,21 @@ bit-next word words b =
     rw (d, r)
 
 -- two words are one if their bits are
-pub word-of-bits : (u v : List ℕ) (k : ℕ) → getD u k 0 < 2 ^ 32 → getD v k 0 < 2 ^ 32
+pub word-of-bits : (u v : List ℕ) (k : ℕ) → getD u k 0 < 2 ^ wordBits → getD v k 0 < 2 ^ wordBits
     → ((i : ℕ) → i < 32 → bit u (32 * k + i) ≡ bit v (32 * k + i)) → getD u k 0 ≡ getD v k 0
 word-of-bits u v k hu hv same =
     word-ext 32 (getD u k 0) (getD v k 0) hu hv (λ i l. sym (bit-word u k i l) ∙ same i l ∙ bit-word v k i l)
 
 -- two bitmaps are one if their bits are
-pub bitmap-ext : (u v : List ℕ) → IsBitmap u → IsBitmap v → ((b : ℕ) → b < 4096 → bit u b ≡ bit v b) → u ≡ v
+pub bitmap-ext : (u v : List ℕ) → IsBitmap u → IsBitmap v → ((b : ℕ) → b < maxBlocks → bit u b ≡ bit v b) → u ≡ v
 bitmap-ext u v hu hv same =
     ext-getD 0 u v (hu .size ∙ sym (hv .size))
     (λ k h.
-    let l : k < 128 = omega (arith, hu .size) in
+    let l : k < bitmapWords = omega (arith, hu .size) in
     word-of-bits u v k (hu .small k) (hv .small k) (λ i hi. same (32 * k + i) (omega arith)))
 
 -- a bitmap has no bits past its words
-pub bit-beyond : (words : List ℕ) (b : ℕ) → length words ≡ 128 → 4096 ≤ b → bit words b ≡ false
+pub bit-beyond : (words : List ℕ) (b : ℕ) → length words ≡ bitmapWords → maxBlocks ≤ b → bit words b ≡ false
 unfolding bit
 bit-beyond words b e h =
     let l : length words ≤ b / 32 = omega arith in
@@ -68,9 +69,9 @@ getD-zeros (suc n) zero = refl
 getD-zeros (suc n) (suc k) = getD-zeros n k
 
 -- the empty bitmap has no bits
-pub bit-empty : (b : ℕ) → bit (replicate 128 0) b ≡ false
+pub bit-empty : (b : ℕ) → bit (replicate bitmapWords 0) b ≡ false
 unfolding bit
-bit-empty b = rw (getD-zeros 128 (b / 32), isSet-zero)
+bit-empty b = rw (getD-zeros bitmapWords (b / 32), isSet-zero)
 
 -- ---- no bits from m on
 
@@ -103,11 +104,11 @@ noBits-bit m words b h l =
     isSet-small (getD words (b / 32) 0) (m - 32 * (b / 32)) (b % 32) (noBits-at m words (b / 32) h) (omega arith)
 
 -- and if those bits are 0, there are no bits from m on
-pub bits-noBits : (m : ℕ) (words : List ℕ) → IsBitmap words → ((b : ℕ) → m ≤ b → b < 4096 → bit words b ≡ false) → noBitsFrom m words ≡ true
+pub bits-noBits : (m : ℕ) (words : List ℕ) → IsBitmap words → ((b : ℕ) → m ≤ b → b < maxBlocks → bit words b ≡ false) → noBitsFrom m words ≡ true
 bits-noBits m words is none =
     noBits-all m words
     (λ k h.
-    let l : k < 128 = omega (arith, is .size) in
+    let l : k < bitmapWords = omega (arith, is .size) in
     small-isSet (getD words k 0) 32 (m - 32 * k) (is .small k)
     (λ i from below. sym (bit-word words k i below) ∙ none (32 * k + i) (omega arith) (omega arith)))
 
@@ -130,29 +131,32 @@ length-wordsOf f m p zero = refl
 length-wordsOf f m p (suc k) = ap suc (length-wordsOf f m (p + 32) k)
 
 -- word k of a bitmap has the bits of f from 32 k on
-getD-bitmapOf : (m : ℕ) (f : ℕ → Bool) (k : ℕ) → k < 128
+getD-bitmapOf : (m : ℕ) (f : ℕ → Bool) (k : ℕ) → k < bitmapWords
     → getD (bitmapOf m f) k 0 ≡ wordOf f (32 * k) (min 32 (m - 32 * k))
 unfolding bitmapOf
-getD-bitmapOf m f k h = getD-wordsOf f m 0 128 k h ∙ rw (zero-add (32 * k))
+getD-bitmapOf m f k h = getD-wordsOf f m 0 bitmapWords k h ∙ rw (zero-add (32 * k))
 
 -- it has neither bits from m - 32 k on nor from 32 on
 bitmapOf-lt : (m : ℕ) (f : ℕ → Bool) (k : ℕ) → getD (bitmapOf m f) k 0 < 2 ^ min 32 (m - 32 * k)
 unfolding bitmapOf
-bitmapOf-lt m f k = ⊎-elim within past (below-or-from k 128)
+bitmapOf-lt m f k = ⊎-elim within past (below-or-from k bitmapWords)
   where
-    within : k < 128 → getD (bitmapOf m f) k 0 < 2 ^ min 32 (m - 32 * k)
+    within : k < bitmapWords → getD (bitmapOf m f) k 0 < 2 ^ min 32 (m - 32 * k)
     within h = rw (getD-bitmapOf m f k h) (wordOf-lt f (32 * k) (min 32 (m - 32 * k)))
 
-    past : 128 ≤ k → getD (bitmapOf m f) k 0 < 2 ^ min 32 (m - 32 * k)
+    past : bitmapWords ≤ k → getD (bitmapOf m f) k 0 < 2 ^ min 32 (m - 32 * k)
     past h =
-        let l : length (bitmapOf m f) ≤ k = omega (arith, length-wordsOf f m 0 128) in
+        let l : length (bitmapOf m f) ≤ k = omega (arith, length-wordsOf f m 0 bitmapWords) in
         rw (List·getD-eq-default (bitmapOf m f) 0 l) (pow-pos (min 32 (m - 32 * k)))
 
 -- it is a bitmap
 pub bitmapOf-is : (m : ℕ) (f : ℕ → Bool) → IsBitmap (bitmapOf m f)
 unfolding bitmapOf
 bitmapOf-is m f =
-    record { size = length-wordsOf f m 0 128; small = λ k. omega (arith, bitmapOf-lt m f k, pow-mono (min-le-left 32 (m - 32 * k))) }
+    record {
+      size = length-wordsOf f m 0 bitmapWords;
+      small = λ k. omega (arith, bitmapOf-lt m f k, pow-mono (min-le-left 32 (m - 32 * k)));
+    }
 
 -- it has no bits from m on
 pub noBits-bitmapOf : (m : ℕ) (f : ℕ → Bool) → noBitsFrom m (bitmapOf m f) ≡ true
@@ -160,14 +164,14 @@ noBits-bitmapOf m f =
     noBits-all m (bitmapOf m f) (λ k h. omega (arith, bitmapOf-lt m f k, pow-mono (min-le-right 32 (m - 32 * k))))
 
 -- its bits below m are f's, as far as a bitmap goes
-bit-within : (m : ℕ) (f : ℕ → Bool) (b : ℕ) → b < 4096 → b < m → bit (bitmapOf m f) b ≡ f b
+bit-within : (m : ℕ) (f : ℕ → Bool) (b : ℕ) → b < maxBlocks → b < m → bit (bitmapOf m f) b ≡ f b
 unfolding bit
 bit-within m f b h l =
     ap (λ (w : ℕ). isSet w (b % 32)) (getD-bitmapOf m f (b / 32) (omega arith))
     ∙ isSet-wordOf f (32 * (b / 32)) (min 32 (m - 32 * (b / 32))) (b % 32) (omega arith)
     ∙ ap f (omega arith)
 
-pub bit-below : (m : ℕ) (f : ℕ → Bool) (b : ℕ) → m ≤ 4096 → b < m → bit (bitmapOf m f) b ≡ f b
+pub bit-below : (m : ℕ) (f : ℕ → Bool) (b : ℕ) → m ≤ maxBlocks → b < m → bit (bitmapOf m f) b ≡ f b
 bit-below m f b h l = bit-within m f b (omega arith) l
 
 -- its bits from m on are 0
@@ -175,7 +179,7 @@ pub bit-from : (m : ℕ) (f : ℕ → Bool) (b : ℕ) → m ≤ b → bit (bitma
 bit-from m f b h = noBits-bit m (bitmapOf m f) b (noBits-bitmapOf m f) h
 
 -- the bitmap of a bitmap's bits is that bitmap
-pub bitmapOf-bit : (m : ℕ) (words : List ℕ) → m ≤ 4096 → IsBitmap words → noBitsFrom m words ≡ true → bitmapOf m (bit words) ≡ words
+pub bitmapOf-bit : (m : ℕ) (words : List ℕ) → m ≤ maxBlocks → IsBitmap words → noBitsFrom m words ≡ true → bitmapOf m (bit words) ≡ words
 bitmapOf-bit m words h is none =
     bitmap-ext (bitmapOf m (bit words)) words (bitmapOf-is m (bit words)) is
     (λ b l.

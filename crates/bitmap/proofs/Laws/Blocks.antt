@@ -1,6 +1,6 @@
--- Lists of blocks: what is in them, that they rise, and how a scan goes on from one block to the next.
+-- Lists of blocks: what is in them, and how a scan goes on from one block to the next.
 use Prim.Native.Nat.{ℕ, zero, suc, _+_, _-_, _≤_, _<_, suc-le-suc}
-use native.Mathlib.Nat.{not-suc-le-zero, le-refl, le-trans, le-step, eq-or-lt-of-le, le-of-suc-le-suc, sub-eq-zero-of-le}
+use native.Mathlib.Nat.{not-suc-le-zero, le-refl, le-step, eq-or-lt-of-le, le-of-suc-le-suc, sub-eq-zero-of-le}
 use native.Mathlib.Decide.{le-ind}
 use native.Mathlib.Omega.{arith}
 use mathlib.Core.Path.{_≡_, refl, sym, ap, _∙_}
@@ -11,7 +11,7 @@ use lib.ListN.{length, take}
 use lib.Dec.{eqb}
 use borrow.Author.Tests.{eqb-true, eq-eqb, not-true}
 use Rattle.bitmap.specs.Bits.{bit}
-use Rattle.bitmap.specs.Blocks.{scan, from, allocatedBlocks, isAvailable, availableBlocks, member, allBelow}
+use Rattle.bitmap.specs.Blocks.{scan, from, isAvailable, availableBlocks, member, allBelow}
 use Rattle.bitmap.proofs.Laws.Bits.{below-or-from}
 
 -- ---- a test at every number below n
@@ -83,36 +83,12 @@ member-scan test p (suc n) b h = go (test p) refl h (member-scan test (suc p) n 
         ⊎-elim (λ q. (omega arith, omega arith, ap test q ∙ e)) (λ r. later (ih r)) (member-cons b p (scan test (suc p) n) k)
     go false e k ih = later (ih k)
 
--- and each of these at which the test holds is found
-scan-member : (test : ℕ → Bool) (p n b : ℕ) → p ≤ b → b < p + n → test b ≡ true → member b (scan test p n) ≡ true
-unfolding scan member
-scan-member test p zero b l h e = absurd (omega arith)
-scan-member test p (suc n) b l h e =
-    ⊎-elim here (λ k. there (test p) (scan-member test (suc p) n b k (omega arith) e)) (eq-or-lt-of-le l)
-  where
-    here : p ≡ b → member b (scan test p (suc n)) ≡ true
-    here q = rw (ap test q ∙ e, eq-eqb b p (sym q))
-
-    there : (t : Bool) → member b (scan test (suc p) n) ≡ true → member b (cond t (p ∷ scan test (suc p) n) (scan test (suc p) n)) ≡ true
-    there true k = member-rest b p (scan test (suc p) n) k
-    there false k = k
-
 -- what a scan up to m finds is from p on, below m, and the test holds there
 pub member-from-true : (test : ℕ → Bool) (m p b : ℕ) → member b (from test m p) ≡ true → (p ≤ b) × (b < m) × (test b ≡ true)
 unfolding from
 member-from-true test m p b h =
     let f = member-scan test p (m - p) b h in
     (f .0, omega (arith, f .0, f .1), f .2)
-
--- and each such block is found
-pub from-member : (test : ℕ → Bool) (m p b : ℕ) → p ≤ b → b < m → test b ≡ true → member b (from test m p) ≡ true
-unfolding from
-from-member test m p b l h e = scan-member test p (m - p) b l (omega arith) e
-
--- an allocated block is below m and has its bit set
-pub allocated-below : (m : ℕ) (sam : List ℕ) (b : ℕ) → member b (allocatedBlocks m sam) ≡ true → (b < m) × (bit sam b ≡ true)
-unfolding allocatedBlocks
-allocated-below m sam b h = let f = member-from-true (bit sam) m 0 b h in (f .1, f .2)
 
 -- an available block is below m and is available
 pub available-below : (m : ℕ) (sam «com» : List ℕ) (b : ℕ) → member b (availableBlocks m sam «com») ≡ true → (b < m) × (isAvailable sam «com» b ≡ true)
@@ -128,38 +104,6 @@ available-free sam «com» b e = not-true (bit sam b) (and-eq-true-iff (not (bit
 pub available-unused : (sam «com» : List ℕ) (b : ℕ) → isAvailable sam «com» b ≡ true → bit «com» b ≡ false
 unfolding isAvailable
 available-unused sam «com» b e = not-true (bit «com» b) (and-eq-true-iff (not (bit sam b)) (not (bit «com» b)) .0 e .1)
-
--- ---- rising lists
-
--- each number is at least the bound, and the rest rises from its successor
-abbrev pub Rising : ℕ → List ℕ → Type 0
-Rising p [] = Unit {0}
-Rising p (x ∷ xs) = (p ≤ x) × Rising (suc x) xs
-
--- a list that rises from a bound rises from a lower one
-rising-lower : (p q : ℕ) (xs : List ℕ) → p ≤ q → Rising q xs → Rising p xs
-rising-lower p q [] l r = tt
-rising-lower p q (x ∷ xs) l r = (le-trans l (r .0), r .1)
-
--- a scan rises
-scan-rising : (test : ℕ → Bool) (p n : ℕ) → Rising p (scan test p n)
-unfolding scan
-scan-rising test p zero = tt
-scan-rising test p (suc n) = go (test p) (scan-rising test (suc p) n)
-  where
-    go : (t : Bool) → Rising (suc p) (scan test (suc p) n) → Rising p (cond t (p ∷ scan test (suc p) n) (scan test (suc p) n))
-    go true r = (le-refl p, r)
-    go false r = rising-lower p (suc p) (scan test (suc p) n) (omega arith) r
-
-pub from-rising : (test : ℕ → Bool) (m p : ℕ) → Rising p (from test m p)
-unfolding from
-from-rising test m p = scan-rising test p (m - p)
-
--- the start of a rising list rises
-pub take-rising : (n p : ℕ) (xs : List ℕ) → Rising p xs → Rising p (take n xs)
-take-rising zero p xs r = tt
-take-rising (suc n) p [] r = tt
-take-rising (suc n) p (x ∷ xs) r = (r .0, take-rising n (suc x) xs (r .1))
 
 -- ---- a scan from one block to the next
 

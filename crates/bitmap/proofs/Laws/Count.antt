@@ -8,6 +8,7 @@ use mathlib.Core.List.{List, [], _∷_}
 use lib.ListN.{length, getD}
 use lib.Arith.{lt-one}
 use lib.Count.{ones, ones-step}
+use Rattle.bitmap.specs.Sizes.{maxBlocks, wordBits}
 use Rattle.bitmap.specs.Bits.{isSet, bit, noBitsFrom, IsBitmap}
 use Rattle.bitmap.specs.Blocks.{scan, from, allocatedBlocks}
 use Rattle.bitmap.proofs.Laws.Word.{isSet-half, half-and-low}
@@ -68,7 +69,7 @@ word-ones w (suc n) h =
     omega (arith, count-suc (isSet w) 0 n, word-ones (w / 2) n (omega arith), ones-step w)
 
 -- of a word's 32 blocks
-first-ones : (w : ℕ) (ws : List ℕ) → w < 2 ^ 32 → length (scan (bit (w ∷ ws)) 0 32) ≡ ones w
+first-ones : (w : ℕ) (ws : List ℕ) → w < 2 ^ wordBits → length (scan (bit (w ∷ ws)) 0 32) ≡ ones w
 first-ones w ws h = count-same (bit (w ∷ ws)) (isSet w) 0 0 32 (λ i l. bit-word (w ∷ ws) 0 i l ∙ ap (isSet w) (sym (zero-add i))) ∙ word-ones w 32 h
 
 -- of the blocks of the words after it
@@ -76,7 +77,7 @@ rest-count : (w : ℕ) (ws : List ℕ) (n : ℕ) → length (scan (bit (w ∷ ws
 rest-count w ws n = count-same (bit (w ∷ ws)) (bit ws) 32 0 n (λ i l. rw (zero-add i) (bit-next w ws i))
 
 -- of all blocks
-words-ones : (words : List ℕ) → ((k : ℕ) → getD words k 0 < 2 ^ 32) → length (scan (bit words) 0 (32 * length words)) ≡ onesOf words
+words-ones : (words : List ℕ) → ((k : ℕ) → getD words k 0 < 2 ^ wordBits) → length (scan (bit words) 0 (32 * length words)) ≡ onesOf words
 unfolding onesOf
 words-ones [] h = count-zero (bit []) 0
 words-ones (w ∷ ws) h =
@@ -86,17 +87,18 @@ words-ones (w ∷ ws) h =
     ∙ ap₂ (λ (x y : ℕ). x + y) (first-ones w ws (h 0)) (rest-count w ws (32 * length ws) ∙ words-ones ws (λ k. h (suc k)))
 
 -- a volume has as many allocated blocks as its bitmap has ones
-pub allocated-ones : (m : ℕ) (words : List ℕ) → m ≤ 4096 → IsBitmap words → noBitsFrom m words ≡ true → length (allocatedBlocks m words) ≡ onesOf words
+pub allocated-ones : (m : ℕ) (words : List ℕ) → m ≤ maxBlocks → IsBitmap words → noBitsFrom m words ≡ true
+    → length (allocatedBlocks m words) ≡ onesOf words
 unfolding allocatedBlocks from
 allocated-ones m words h is none =
-    let past : from (bit words) 4096 m ≡ [] =
-    from-skip (bit words) 4096 m 4096 h (λ b l u. noBits-bit m words b none l) ∙ from-end (bit words) 4096 4096 (le-refl 4096) in
-    let all : m + (4096 - m) ≡ 32 * length words = omega (arith, is .size) in
+    let past : from (bit words) maxBlocks m ≡ [] =
+    from-skip (bit words) maxBlocks m maxBlocks h (λ b l u. noBits-bit m words b none l) ∙ from-end (bit words) maxBlocks maxBlocks (le-refl maxBlocks) in
+    let all : m + (maxBlocks - m) ≡ 32 * length words = omega (arith, is .size) in
     rw (sub-zero m)
     (omega (
       arith,
       ap length past,
-      rw (zero-add m) at (count-add (bit words) 0 m (4096 - m)),
+      rw (zero-add m) at (count-add (bit words) 0 m (maxBlocks - m)),
       ap (λ (n : ℕ). length (scan (bit words) 0 n)) all,
       words-ones words (is .small),
     ))

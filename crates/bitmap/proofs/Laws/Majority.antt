@@ -75,7 +75,7 @@ pub isSet-majority : (a b c i : ℕ) → isSet (majorityWord a b c) i ≡ majori
 unfolding majorityWord majority
 isSet-majority a b c i =
     isSet-or (bitAnd a b) (bitAnd c (bitOr a b)) i
-    ∙ ap₂ _||_ (isSet-and a b i) (isSet-and c (bitOr a b) i ∙ ap (λ (t : Bool). isSet c i && t) (isSet-or a b i))
+    ∙ ap₂ (λ (x y : Bool). x || y) (isSet-and a b i) (isSet-and c (bitOr a b) i ∙ ap (λ (t : Bool). isSet c i && t) (isSet-or a b i))
 
 -- of words of w bits it has w
 pub majorityWord-lt : (w a b c : ℕ) → a < 2 ^ w → b < 2 ^ w → c < 2 ^ w → majorityWord a b c < 2 ^ w

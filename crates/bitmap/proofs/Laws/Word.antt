@@ -41,6 +41,10 @@ half-of : (w : ℕ) (b : Bool) → (w * 2 + cond b 1 0) / 2 ≡ w
 half-of w true = omega arith
 half-of w false = omega arith
 
+-- and bit i of the word is bit i + 1
+high-of : (w : ℕ) (b : Bool) (i : ℕ) → isSet (w * 2 + cond b 1 0) (suc i) ≡ isSet w i
+high-of w b i = rw (isSet-half, half-of w b)
+
 -- ---- words with few bits
 
 -- 0 has no bits
@@ -106,10 +110,7 @@ pub isSet-wordOf : (f : ℕ → Bool) (p n i : ℕ) → i < n → isSet (wordOf 
 isSet-wordOf f p zero i h = absurd (not-suc-le-zero h)
 isSet-wordOf f p (suc n) zero h = rw (wordOf-low f p n, add-zero) (low-of (wordOf f (suc p) n) (f p))
 isSet-wordOf f p (suc n) (suc i) h =
-    isSet-half (wordOf f p (suc n)) i
-    ∙ ap (λ (x : ℕ). isSet x i) (ap (λ (x : ℕ). x / 2) (wordOf-low f p n) ∙ half-of (wordOf f (suc p) n) (f p))
-    ∙ isSet-wordOf f (suc p) n i (omega arith)
-    ∙ ap f (omega arith)
+    rw (wordOf-low f p n, high-of (wordOf f (suc p) n) (f p) i) (isSet-wordOf f (suc p) n i (omega arith) ∙ ap f (omega arith))
 
 -- ---- the operations, bit by bit
 
@@ -127,10 +128,8 @@ module _ (op f : ℕ → ℕ → ℕ) (g : Bool → Bool → Bool)
   isSet-op : (a b i : ℕ) → isSet (op a b) i ≡ g (isSet a i) (isSet b i)
   isSet-op a b zero = rw (op-low a b) (low-of (op (a / 2) (b / 2)) (g (isSet a 0) (isSet b 0)))
   isSet-op a b (suc i) =
-      isSet-half (op a b) i
-      ∙ ap (λ (x : ℕ). isSet x i) (ap (λ (x : ℕ). x / 2) (op-low a b) ∙ half-of (op (a / 2) (b / 2)) (g (isSet a 0) (isSet b 0)))
-      ∙ isSet-op (a / 2) (b / 2) i
-      ∙ sym (ap₂ g (isSet-half a i) (isSet-half b i))
+      rw (op-low a b, high-of (op (a / 2) (b / 2)) (g (isSet a 0) (isSet b 0)) i)
+      (isSet-op (a / 2) (b / 2) i ∙ sym (ap₂ g (isSet-half a i) (isSet-half b i)))
 
 -- or, bit by bit
 pub isSet-or : (a b i : ℕ) → isSet (bitOr a b) i ≡ (isSet a i || isSet b i)
@@ -176,10 +175,8 @@ pub isSet-not : (w a i : ℕ) → a < 2 ^ w → i < w → isSet (2 ^ w - 1 - a) 
 isSet-not zero a i h l = absurd (not-suc-le-zero l)
 isSet-not (suc w) a zero h l = rw (not-low w a h) (low-of (2 ^ w - 1 - a / 2) (not (isSet a 0)))
 isSet-not (suc w) a (suc i) h l =
-    isSet-half (2 ^ suc w - 1 - a) i
-    ∙ ap (λ (x : ℕ). isSet x i) (ap (λ (x : ℕ). x / 2) (not-low w a h) ∙ half-of (2 ^ w - 1 - a / 2) (not (isSet a 0)))
-    ∙ isSet-not w (a / 2) i (omega arith) (omega arith)
-    ∙ sym (ap not (isSet-half a i))
+    rw (not-low w a h, high-of (2 ^ w - 1 - a / 2) (not (isSet a 0)) i)
+    (isSet-not w (a / 2) i (omega arith) (omega arith) ∙ sym (ap not (isSet-half a i)))
 
 -- the word with one bit
 pub isSet-pow : (j i : ℕ) → isSet (2 ^ j) i ≡ eqb i j

@@ -1,8 +1,8 @@
 -- One block's bit set or cleared: which bits the words have then, and that they are a bitmap.
-use Prim.Native.Nat.{ℕ, zero, suc, _+_, _-_, _*_, _/_, _%_, _^_, _≤_, _<_}
+use Prim.Native.Nat.{ℕ, zero, suc, _-_, _*_, _/_, _%_, _^_, _≤_, _<_}
 use native.Mathlib.Nat.{one-mul}
 use native.Mathlib.Omega.{arith}
-use mathlib.Core.Path.{_≡_, refl, sym, ap, ap₂, _∙_}
+use mathlib.Core.Path.{_≡_, refl, sym, ap, _∙_}
 use mathlib.Core.Logic.{_⊎_, inl, inr, ⊎-elim}
 use mathlib.Core.Bool.{Bool, true, false, not, _&&_, _||_, or-comm, and-comm, or-assoc, or-false}
 use mathlib.Core.List.{List, [], _∷_, _++_}
@@ -12,6 +12,7 @@ use lib.Dec.{eqb}
 use lib.Pow.{pow-lt, shl-exact, ones-sub-lt}
 use lib.Bits.{bitAnd, bitOr, or-lt, and-lt, and-mask}
 use borrow.Author.Tests.{eqb-true, eqb-false, eq-eqb, ne-eqb}
+use Rattle.bitmap.specs.Sizes.{maxBlocks, wordBits}
 use Rattle.bitmap.specs.Bits.{isSet, bit, bitmapOf, noBitsFrom, IsBitmap}
 use Rattle.bitmap.specs.Blocks.{member}
 use Rattle.bitmap.proofs.Laws.Word.{isSet-or, isSet-and, isSet-not, isSet-pow}
@@ -42,7 +43,8 @@ same-or-other a b = go (eqb a b) refl
     go false e = inr (eqb-false a b e)
 
 -- small words stay small with a small one put among them
-set-small : (words : List ℕ) (k v j : ℕ) → ((i : ℕ) → getD words i 0 < 2 ^ 32) → v < 2 ^ 32 → getD (set words k v) j 0 < 2 ^ 32
+set-small : (words : List ℕ) (k v j : ℕ) → ((i : ℕ) → getD words i 0 < 2 ^ wordBits) → v < 2 ^ wordBits
+    → getD (set words k v) j 0 < 2 ^ wordBits
 set-small [] k v j h l = h j
 set-small (w ∷ ws) zero v zero h l = l
 set-small (w ∷ ws) zero v (suc j) h l = h (suc j)
@@ -50,7 +52,7 @@ set-small (w ∷ ws) (suc k) v zero h l = h 0
 set-small (w ∷ ws) (suc k) v (suc j) h l = set-small ws k v j (λ i. h (suc i)) l
 
 -- and a bitmap stays one
-set-is : (words : List ℕ) (k v : ℕ) → IsBitmap words → v < 2 ^ 32 → IsBitmap (set words k v)
+set-is : (words : List ℕ) (k v : ℕ) → IsBitmap words → v < 2 ^ wordBits → IsBitmap (set words k v)
 set-is words k v is h = record { size = length-set words k v ∙ is .size; small = λ j. set-small words k v j (is .small) h }
 
 -- of two blocks of one word, the places in it tell them apart
@@ -81,7 +83,7 @@ put-word : (w j i : ℕ) → isSet (bitOr w (2 ^ j)) i ≡ (eqb i j || isSet w i
 put-word w j i = isSet-or w (2 ^ j) i ∙ ap (λ (t : Bool). isSet w i || t) (isSet-pow j i) ∙ or-comm (isSet w i) (eqb i j)
 
 -- the block's bit is 1 then, and the others are as they were
-pub bit-put : (words : List ℕ) (x b : ℕ) → IsBitmap words → x < 4096 → bit (putBit words x) b ≡ (eqb b x || bit words b)
+pub bit-put : (words : List ℕ) (x b : ℕ) → IsBitmap words → x < maxBlocks → bit (putBit words x) b ≡ (eqb b x || bit words b)
 unfolding putBit
 bit-put words x b is h =
     bit-set _||_ words x (bitOr (getD words (x / 32) 0) (2 ^ (x % 32))) b (omega (arith, is .size)) (λ t. refl)
@@ -106,11 +108,11 @@ clear-word w j i h l =
     ∙ and-comm (isSet w i) (not (eqb i j))
 
 -- the block's bit is 0 then, and the others are as they were
-pub bit-clear : (words : List ℕ) (x b : ℕ) → IsBitmap words → x < 4096 → bit (clearBit words x) b ≡ (not (eqb b x) && bit words b)
+pub bit-clear : (words : List ℕ) (x b : ℕ) → IsBitmap words → x < maxBlocks → bit (clearBit words x) b ≡ (not (eqb b x) && bit words b)
 unfolding clearBit
 bit-clear words x b is h =
-    bit-set (λ s t. not s && t) words x (bitAnd (getD words (x / 32) 0) (2 ^ 32 - 1 - 2 ^ (x % 32))) b (omega (arith, is .size)) (λ t. refl)
-    (λ i l. clear-word (getD words (x / 32) 0) (x % 32) i (omega arith) l)
+    bit-set (λ s t. not s && t) words x (bitAnd (getD words (x / 32) 0) (2 ^ 32 - 1 - 2 ^ (x % 32))) b (omega (arith, is .size))
+    (λ t. refl) (λ i l. clear-word (getD words (x / 32) 0) (x % 32) i (omega arith) l)
 
 pub clear-is : (words : List ℕ) (x : ℕ) → IsBitmap words → IsBitmap (clearBit words x)
 unfolding clearBit
@@ -120,22 +122,21 @@ clear-is words x is =
 
 -- ---- as bitmaps of m blocks
 
-module _ (m : ℕ) (words : List ℕ) (x : ℕ) (h : m ≤ 4096) (below : x < m) (is : IsBitmap words) (none : noBitsFrom m words ≡ true) where
-  -- from m on no block is x, and no bit is set
-  past : (b : ℕ) → m ≤ b → eqb b x ≡ false
-  past b l = ne-eqb b x (λ e. omega arith)
+module _ (m : ℕ) (words : List ℕ) (x : ℕ) (h : m ≤ maxBlocks) (below : x < m)
+    (is : IsBitmap words) (none : noBitsFrom m words ≡ true) where
+  -- words whose bits are altered by g at block x: from m on no block is x, and no bit is set
+  altered : (g : Bool → Bool → Bool) (new : List ℕ) → IsBitmap new → g false false ≡ false
+      → ((b : ℕ) → bit new b ≡ g (eqb b x) (bit words b))
+      → new ≡ bitmapOf m (λ b. g (eqb b x) (bit words b))
+  altered g new isNew clear bits =
+      bitmap-of-bits m new (λ b. g (eqb b x) (bit words b)) h isNew (λ b l. bits b)
+      (λ b l u. bits b ∙ rw (ne-eqb b x (λ e. omega arith), noBits-bit m words b none l) clear)
 
   pub put-bitmap : putBit words x ≡ bitmapOf m (λ b. eqb b x || bit words b)
-  put-bitmap =
-      bitmap-of-bits m (putBit words x) (λ b. eqb b x || bit words b) h (put-is words x is)
-      (λ b l. bit-put words x b is (omega arith))
-      (λ b l u. bit-put words x b is (omega arith) ∙ rw (past b l, noBits-bit m words b none l))
+  put-bitmap = altered _||_ (putBit words x) (put-is words x is) refl (λ b. bit-put words x b is (omega arith))
 
   pub clear-bitmap : clearBit words x ≡ bitmapOf m (λ b. not (eqb b x) && bit words b)
-  clear-bitmap =
-      bitmap-of-bits m (clearBit words x) (λ b. not (eqb b x) && bit words b) h (clear-is words x is)
-      (λ b l. bit-clear words x b is (omega arith))
-      (λ b l u. bit-clear words x b is (omega arith) ∙ rw (past b l, noBits-bit m words b none l))
+  clear-bitmap = altered (λ s t. not s && t) (clearBit words x) (clear-is words x is) refl (λ b. bit-clear words x b is (omega arith))
 
 -- a block is one more at a list's end
 member-snoc : (b x : ℕ) (bs : List ℕ) → (eqb b x || member b bs) ≡ member b (bs ++ (x ∷ []))
@@ -143,7 +144,7 @@ unfolding member
 member-snoc b x bs = or-comm (eqb b x) (member b bs) ∙ ap (λ (t : Bool). member b bs || t) (sym (or-false (eqb b x))) ∙ sym (member-append b bs (x ∷ []))
 
 -- the blocks of a list, with one more put at its end
-pub put-member : (m : ℕ) (bs : List ℕ) (f : ℕ → Bool) (x : ℕ) → m ≤ 4096 → x < m
+pub put-member : (m : ℕ) (bs : List ℕ) (f : ℕ → Bool) (x : ℕ) → m ≤ maxBlocks → x < m
     → putBit (bitmapOf m (λ b. member b bs || f b)) x ≡ bitmapOf m (λ b. member b (bs ++ (x ∷ [])) || f b)
 put-member m bs f x h below =
     put-bitmap m (bitmapOf m had) x h below (bitmapOf-is m had) (noBits-bitmapOf m had)

@@ -1,6 +1,6 @@
 -- Three bitmaps combined word by word: the words and bits of the result, how a loop makes it, and the bitmaps that a
 -- commit, a rollback and another slot's commit make.
-use Prim.Native.Nat.{ℕ, zero, suc, _+_, _-_, _*_, _/_, _%_, _^_, _≤_, _<_}
+use Prim.Native.Nat.{ℕ, zero, suc, _+_, _-_, _/_, _%_, _^_, _≤_, _<_}
 use native.Mathlib.Nat.{not-suc-le-zero}
 use native.Mathlib.Omega.{arith}
 use mathlib.Core.Path.{_≡_, refl, sym, ap, ap₂, _∙_}
@@ -8,8 +8,9 @@ use mathlib.Core.Logic.{⊎-elim}
 use mathlib.Core.Bool.{Bool, true, false, not, xor, cond, _&&_, _||_}
 use mathlib.Core.List.{List, [], _∷_}
 use lib.ListN.{length, getD, set, List·getD-eq-default}
-use lib.Bits.{bitAnd, bitOr, bitXor, and-lt, or-lt, xor-lt}
+use lib.Bits.{bitAnd, bitXor, and-lt, or-lt, xor-lt}
 use lib.Pow.{ones-sub-lt}
+use Rattle.bitmap.specs.Sizes.{maxBlocks, wordBits, bitmapWords}
 use Rattle.bitmap.specs.Bits.{isSet, bit, bitmapOf, noBitsFrom, IsBitmap}
 use Rattle.bitmap.specs.Majority.{majority}
 use Rattle.bitmap.proofs.Laws.Word.{isSet-and, isSet-or, isSet-xor, isSet-not}
@@ -39,72 +40,75 @@ getD-zip3 f (x ∷ xs) (y ∷ ys) [] k ey ez h = absurd (omega arith)
 getD-zip3 f (x ∷ xs) (y ∷ ys) (z ∷ zs) zero ey ez h = refl
 getD-zip3 f (x ∷ xs) (y ∷ ys) (z ∷ zs) (suc k) ey ez h = getD-zip3 f xs ys zs k (omega arith) (omega arith) (omega arith)
 
--- ---- a loop that makes the words
+module _ (f : ℕ → ℕ → ℕ → ℕ) (u v w : List ℕ)
+    (eu : length u ≡ bitmapWords) (ev : length v ≡ bitmapWords) (ew : length w ≡ bitmapWords) where
+  -- of as many words as a bitmap has, as many
+  zip3-size : length (zip3 f u v w) ≡ bitmapWords
+  zip3-size = length-zip3 f u v w (ev ∙ sym eu) (ew ∙ sym eu) ∙ eu
 
-module _ (f : ℕ → ℕ → ℕ → ℕ) (xs ys zs old words : List ℕ) (k : ℕ)
-    (ex : length xs ≡ 128) (ey : length ys ≡ 128) (ez : length zs ≡ 128) (eo : length old ≡ 128)
-    (so : Overwritten k (zip3 f xs ys zs) old words) where
-  -- they are 128
-  words-made : length (zip3 f xs ys zs) ≡ 128
-  words-made = length-zip3 f xs ys zs (ey ∙ sym ex) (ez ∙ sym ex) ∙ ex
+  word-at : (k : ℕ) → k < bitmapWords → getD (zip3 f u v w) k 0 ≡ f (getD u k 0) (getD v k 0) (getD w k 0)
+  word-at k h = getD-zip3 f u v w k (ev ∙ sym eu) (ew ∙ sym eu) (omega arith)
 
-  -- the word that is next has not been written
-  pub zip3-at : k < 128 → getD words k 0 ≡ getD old k 0
-  zip3-at h = overwritten-at k (zip3 f xs ys zs) old words (omega (arith, words-made)) (omega arith) so
+  -- a loop that makes the words
+  module _ (old : List ℕ) {words : List ℕ} (k : ℕ) (eo : length old ≡ bitmapWords)
+      (so : Overwritten k (zip3 f u v w) old words) where
+    -- the word that is next has not been written
+    pub zip3-at : k < bitmapWords → getD words k 0 ≡ getD old k 0
+    zip3-at h = overwritten-at k (zip3 f u v w) old words (omega (arith, zip3-size)) (omega arith) so
 
-  -- the next word is made of those in its place
-  pub zip3-step : (word : ℕ) → k < 128 → word ≡ f (getD xs k 0) (getD ys k 0) (getD zs k 0)
-      → Overwritten (k + 1) (zip3 f xs ys zs) old (set words k word)
-  zip3-step word h e =
-      rw (e ∙ sym (getD-zip3 f xs ys zs k (ey ∙ sym ex) (ez ∙ sym ex) (omega arith)))
-      (overwritten-step k (zip3 f xs ys zs) old words (omega (arith, words-made)) (omega arith) so)
+    -- the next word is made of those in its place
+    pub zip3-step : {word : ℕ} → k < bitmapWords → word ≡ f (getD u k 0) (getD v k 0) (getD w k 0)
+        → Overwritten (k + 1) (zip3 f u v w) old (set words k word)
+    zip3-step h e =
+        rw (e ∙ sym (word-at k h)) (overwritten-step k (zip3 f u v w) old words (omega (arith, zip3-size)) (omega arith) so)
 
-  -- and past the last all are made
-  pub zip3-all : 128 ≤ k → words ≡ zip3 f xs ys zs
-  zip3-all h = overwritten-all k (zip3 f xs ys zs) old words (omega (arith, words-made)) (omega arith) so
+    -- and past the last all are made
+    pub zip3-all : bitmapWords ≤ k → words ≡ zip3 f u v w
+    zip3-all h = overwritten-all k (zip3 f u v w) old words (omega (arith, zip3-size)) (omega arith) so
 
 -- ---- the bits
 
 -- what a combination of words of 32 bits is bit by bit
 pub record Bitwise (f : ℕ → ℕ → ℕ → ℕ) (g : Bool → Bool → Bool → Bool) : Type 0 where
-  pub small : (x y z : ℕ) → x < 2 ^ 32 → y < 2 ^ 32 → z < 2 ^ 32 → f x y z < 2 ^ 32
-  pub bits : (x y z i : ℕ) → x < 2 ^ 32 → y < 2 ^ 32 → z < 2 ^ 32 → i < 32 → isSet (f x y z) i ≡ g (isSet x i) (isSet y i) (isSet z i)
+  pub small : (x y z : ℕ) → x < 2 ^ wordBits → y < 2 ^ wordBits → z < 2 ^ wordBits → f x y z < 2 ^ wordBits
+  pub bits : (x y z i : ℕ) → x < 2 ^ wordBits → y < 2 ^ wordBits → z < 2 ^ wordBits → i < wordBits
+      → isSet (f x y z) i ≡ g (isSet x i) (isSet y i) (isSet z i)
   pub none : g false false false ≡ false
 
 module _ (f : ℕ → ℕ → ℕ → ℕ) (g : Bool → Bool → Bool → Bool) (by : Bitwise f g)
     (u v w : List ℕ) (hu : IsBitmap u) (hv : IsBitmap v) (hw : IsBitmap w) where
-  word-at : (k : ℕ) → k < 128 → getD (zip3 f u v w) k 0 ≡ f (getD u k 0) (getD v k 0) (getD w k 0)
-  word-at k h = getD-zip3 f u v w k (hv .size ∙ sym (hu .size)) (hw .size ∙ sym (hu .size)) (omega (arith, hu .size))
+  size-of : length (zip3 f u v w) ≡ bitmapWords
+  size-of = zip3-size f u v w (hu .size) (hv .size) (hw .size)
 
-  size-of : length (zip3 f u v w) ≡ 128
-  size-of = length-zip3 f u v w (hv .size ∙ sym (hu .size)) (hw .size ∙ sym (hu .size)) ∙ hu .size
+  word-of : (k : ℕ) → k < bitmapWords → getD (zip3 f u v w) k 0 ≡ f (getD u k 0) (getD v k 0) (getD w k 0)
+  word-of = word-at f u v w (hu .size) (hv .size) (hw .size)
 
   -- bitmaps combined are a bitmap
   pub zip3-is : IsBitmap (zip3 f u v w)
   zip3-is =
       record {
         size = size-of;
-        small = λ k. ⊎-elim (within k) (past k) (below-or-from k 128);
+        small = λ k. ⊎-elim (within k) (past k) (below-or-from k bitmapWords);
       }
     where
-      within : (k : ℕ) → k < 128 → getD (zip3 f u v w) k 0 < 2 ^ 32
-      within k h = rw (word-at k h) (by .small (getD u k 0) (getD v k 0) (getD w k 0) (hu .small k) (hv .small k) (hw .small k))
+      within : (k : ℕ) → k < bitmapWords → getD (zip3 f u v w) k 0 < 2 ^ wordBits
+      within k h = rw (word-of k h) (by .small (getD u k 0) (getD v k 0) (getD w k 0) (hu .small k) (hv .small k) (hw .small k))
 
-      past : (k : ℕ) → 128 ≤ k → getD (zip3 f u v w) k 0 < 2 ^ 32
+      past : (k : ℕ) → bitmapWords ≤ k → getD (zip3 f u v w) k 0 < 2 ^ wordBits
       past k h =
           let l : length (zip3 f u v w) ≤ k = omega (arith, size-of) in
           rw (List·getD-eq-default (zip3 f u v w) 0 l) (omega arith)
 
   -- with the bits combined
-  pub bit-zip3 : (b : ℕ) → b < 4096 → bit (zip3 f u v w) b ≡ g (bit u b) (bit v b) (bit w b)
+  pub bit-zip3 : (b : ℕ) → b < maxBlocks → bit (zip3 f u v w) b ≡ g (bit u b) (bit v b) (bit w b)
   unfolding bit
   bit-zip3 b h =
       let k = b / 32 in
-      ap (λ (x : ℕ). isSet x (b % 32)) (word-at k (omega arith))
+      ap (λ (x : ℕ). isSet x (b % 32)) (word-of k (omega arith))
       ∙ by .bits (getD u k 0) (getD v k 0) (getD w k 0) (b % 32) (hu .small k) (hv .small k) (hw .small k) (omega arith)
 
   -- and none from m on where the three have none
-  pub zip3-bitmap : (m : ℕ) → m ≤ 4096 → noBitsFrom m u ≡ true → noBitsFrom m v ≡ true → noBitsFrom m w ≡ true
+  pub zip3-bitmap : (m : ℕ) → m ≤ maxBlocks → noBitsFrom m u ≡ true → noBitsFrom m v ≡ true → noBitsFrom m w ≡ true
       → zip3 f u v w ≡ bitmapOf m (λ b. g (bit u b) (bit v b) (bit w b))
   zip3-bitmap m h nu nv nw =
       bitmap-of-bits m (zip3 f u v w) (λ b. g (bit u b) (bit v b) (bit w b)) h zip3-is
@@ -143,7 +147,7 @@ refresh-table true false true = refl
 refresh-table true true false = refl
 refresh-table true true true = refl
 
-refresh-bits : (o n t i : ℕ) → o < 2 ^ 32 → n < 2 ^ 32 → i < 32
+refresh-bits : (o n t i : ℕ) → o < 2 ^ wordBits → n < 2 ^ wordBits → i < 32
     → isSet (refreshWord o n t) i ≡ cond (xor (isSet o i) (isSet n i)) (isSet n i) (isSet t i)
 unfolding refreshWord
 refresh-bits o n t i ho hn l =
@@ -166,7 +170,7 @@ refresh-bitwise =
 
 -- ---- the bitmaps of a volume of m blocks
 
-module _ (m : ℕ) (h : m ≤ 4096) where
+module _ (m : ℕ) (h : m ≤ maxBlocks) where
   -- the SAM of a commit
   pub majority-bitmap : (sam «com» tam : List ℕ) → IsBitmap sam → IsBitmap «com» → IsBitmap tam
       → noBitsFrom m sam ≡ true → noBitsFrom m «com» ≡ true → noBitsFrom m tam ≡ true
@@ -177,10 +181,12 @@ module _ (m : ℕ) (h : m ≤ 4096) where
   pub rollback-bitmap : («com» sam tam : List ℕ) → IsBitmap «com» → IsBitmap sam → IsBitmap tam
       → noBitsFrom m «com» ≡ true → noBitsFrom m sam ≡ true → noBitsFrom m tam ≡ true
       → zip3 rollbackWord «com» sam tam ≡ bitmapOf m (λ b. majority (bit «com» b) (bit sam b) (not (bit tam b)))
-  rollback-bitmap «com» sam tam hc hs ht = zip3-bitmap rollbackWord (λ c s t. majority c s (not t)) rollback-bitwise «com» sam tam hc hs ht m h
+  rollback-bitmap «com» sam tam hc hs ht =
+      zip3-bitmap rollbackWord (λ c s t. majority c s (not t)) rollback-bitwise «com» sam tam hc hs ht m h
 
   -- the TAM of another slot after a commit
   pub refresh-bitmap : (old new tam : List ℕ) → IsBitmap old → IsBitmap new → IsBitmap tam
       → noBitsFrom m old ≡ true → noBitsFrom m new ≡ true → noBitsFrom m tam ≡ true
       → zip3 refreshWord old new tam ≡ bitmapOf m (λ b. cond (xor (bit old b) (bit new b)) (bit new b) (bit tam b))
-  refresh-bitmap old new tam ho hn ht = zip3-bitmap refreshWord (λ o n t. cond (xor o n) n t) refresh-bitwise old new tam ho hn ht m h
+  refresh-bitmap old new tam ho hn ht =
+      zip3-bitmap refreshWord (λ o n t. cond (xor o n) n t) refresh-bitwise old new tam ho hn ht m h

@@ -12,9 +12,10 @@ use lib.Dec.{eqb, ltb}
 use lib.Bits.{bitOr, bitXor, and-le-l, and-le-r, or-add-and, xor-add-and, xor-self}
 use lib.Pow.{pow-pos, pow-mono}
 use borrow.Author.Tests.{eqb-true, eqb-false, eq-eqb, ne-eqb, lt-ltb, le-ltb, ltb-true, ltb-false}
+use Rattle.bitmap.specs.Sizes.{wordBits}
 use Rattle.bitmap.specs.Bits.{noBitsFrom}
 use Rattle.model.specs.Valid.{sameWords}
-use Rattle.model.specs.Stores.{_≔_, changesFrom}
+use Rattle.model.specs.Stores.{Store, _≔_, changesFrom}
 
 -- ---- words
 
@@ -42,7 +43,7 @@ shifted-lt w i e = rw one-mul at (div-lt-iff-lt-mul (pow-pos i) .0 one)
     one = omega arith
 
 -- a word is below 2 ^ i just if it is 0 when shifted by i
-eqb-shift : (w i : ℕ) → eqb (w / 2 ^ i) 0 ≡ ltb w (2 ^ i)
+pub eqb-shift : (w i : ℕ) → eqb (w / 2 ^ i) 0 ≡ ltb w (2 ^ i)
 eqb-shift w i = go (ltb w (2 ^ i)) refl
   where
     go : (t : Bool) → ltb w (2 ^ i) ≡ t → eqb (w / 2 ^ i) 0 ≡ t
@@ -97,7 +98,7 @@ zero-same [] = refl
 zero-same (w ∷ ws) = ap₂ _&&_ (ltb-one w) (zero-same ws)
 
 -- whole words below m have no bits from m on
-noBits-drop : (m : ℕ) (words : List ℕ) (k : ℕ) → ((i : ℕ) → getD words i 0 < 2 ^ 32) → 32 * k ≤ m
+noBits-drop : (m : ℕ) (words : List ℕ) (k : ℕ) → ((i : ℕ) → getD words i 0 < 2 ^ wordBits) → 32 * k ≤ m
     → noBitsFrom m words ≡ noBitsFrom (m - 32 * k) (drop k words)
 unfolding noBitsFrom
 noBits-drop m words zero small h = rw sub-zero
@@ -108,7 +109,7 @@ noBits-drop m (w ∷ ws) (suc k) small h =
     rw (lt-ltb w (2 ^ m) below, ← e) (noBits-drop (m - 32) ws k (λ i. small (suc i)) (omega arith))
 
 -- no bits from m on: none from m mod 32 on in word m div 32, and none in the words after
-pub noBits-words : (m : ℕ) (words : List ℕ) → ((i : ℕ) → getD words i 0 < 2 ^ 32) → m / 32 < length words
+pub noBits-words : (m : ℕ) (words : List ℕ) → ((i : ℕ) → getD words i 0 < 2 ^ wordBits) → m / 32 < length words
     → noBitsFrom m words ≡ (eqb (getD words (m / 32) 0 / 2 ^ (m % 32)) 0 && noBitsFrom 0 (drop (m / 32 + 1) words))
 unfolding noBitsFrom
 noBits-words m words small h =
@@ -118,7 +119,8 @@ noBits-words m words small h =
     ∙ rw (e, drop-cons words (m / 32) 0 h, z, ← eqb-shift (getD words (m / 32) 0) (m % 32), add-one (m / 32))
 
 -- and past the last word there are none
-pub noBits-all-words : (m : ℕ) (words : List ℕ) → ((i : ℕ) → getD words i 0 < 2 ^ 32) → length words ≤ m / 32 → noBitsFrom m words ≡ true
+pub noBits-all-words : (m : ℕ) (words : List ℕ) → ((i : ℕ) → getD words i 0 < 2 ^ wordBits) → length words ≤ m / 32
+    → noBitsFrom m words ≡ true
 unfolding noBitsFrom
 noBits-all-words m words small h =
     noBits-drop m words (m / 32) small (omega arith) ∙ rw (drop-of-length-le words h)
@@ -131,13 +133,12 @@ pub changes-step : (old new : List ℕ) (k : ℕ) → k < length old → k < len
     ≡ cond (eqb (getD old k 0) (getD new k 0)) 0 1 + length (changesFrom (k + 1) (drop (k + 1) old) (drop (k + 1) new))
 unfolding changesFrom
 changes-step old new k ho hn =
-    rw (drop-cons old k 0 ho, drop-cons new k 0 hn, add-one k) (go (eqb (getD old k 0) (getD new k 0)))
+    rw (drop-cons old k 0 ho, drop-cons new k 0 hn, add-one k)
+    (go (eqb (getD old k 0) (getD new k 0)) (changesFrom (suc k) (drop (suc k) old) (drop (suc k) new)))
   where
-    go : (t : Bool)
-        → length (cond t (changesFrom (suc k) (drop (suc k) old) (drop (suc k) new)) (k ≔ getD new k 0 ∷ changesFrom (suc k) (drop (suc k) old) (drop (suc k) new)))
-        ≡ cond t 0 1 + length (changesFrom (suc k) (drop (suc k) old) (drop (suc k) new))
-    go true = omega arith
-    go false = omega arith
+    go : (t : Bool) (rest : List Store) → length (cond t rest (k ≔ getD new k 0 ∷ rest)) ≡ cond t 0 1 + length rest
+    go true rest = omega arith
+    go false rest = omega arith
 
 -- none past the last word
 pub changes-end : (old new : List ℕ) (k : ℕ) → length old ≤ k → length (changesFrom k (drop k old) (drop k new)) ≡ 0

@@ -1,17 +1,17 @@
 -- The entries of a disk's log, one by one.
-use Prim.Native.Nat.{ℕ, zero, suc, _+_, _-_, _*_, _/_, _^_, _≤_, _<_}
+use Prim.Native.Nat.{ℕ, zero, suc, _+_, _-_, _*_, _^_, _≤_, _<_}
 use mathlib.Core.Path.{_≡_, refl, sym, _∙_}
 use mathlib.Core.Bool.{Bool, true, false, _&&_}
 use mathlib.Core.List.{List, [], _∷_}
 use native.Mathlib.Numerals.{add-one}
 use native.Mathlib.Omega.{arith}
-use native.Mathlib.Nat.{not-suc-le-zero, add-assoc, one-mul, div-lt-iff-lt-mul, div-eq-of-lt}
-use lib.Dec.{leb, ltb, eqb}
-use lib.Pow.{pow-pos, pow-mono}
-use borrow.Author.Tests.{ltb-true, ltb-false, lt-ltb, le-leb, lt-leb, eq-eqb, ne-eqb}
+use native.Mathlib.Nat.{not-suc-le-zero, add-assoc}
+use lib.Dec.{leb, ltb}
+use lib.Pow.{pow-mono}
+use borrow.Author.Tests.{ltb-true, lt-ltb, le-leb, lt-leb}
 use lib.ListN.{length, getD, drop, length-drop, drop-of-length-le}
 use lib.Seq.{getD-drop}
-use Rattle.bitmap.specs.Sizes.{wordsFor}
+use Rattle.bitmap.specs.Sizes.{wordBits, bitmapWords, wordsFor}
 use Rattle.model.specs.Sizes.{diskWords, logAt}
 use Rattle.model.specs.Stores.{_≔_}
 use Rattle.model.proofs.Laws.Writes.{and-first, and-second}
@@ -35,7 +35,7 @@ entry-in (suc n) (x ∷ y ∷ words) (suc i) h l =
     rw (f, e) (entry-in n words i (omega arith) (omega arith))
 
 -- entry i of a disk's log
-pub entry-at : (disk : List ℕ) (i : ℕ) → length disk ≡ diskWords → logLength disk ≤ 128 → i < logLength disk
+pub entry-at : (disk : List ℕ) (i : ℕ) → length disk ≡ diskWords → logLength disk ≤ bitmapWords → i < logLength disk
     → drop i (logEntries disk) ≡ getD disk (logAt + 2 * i) 0 ≔ getD disk (logAt + 2 * i + 1) 0 ∷ drop (suc i) (logEntries disk)
 unfolding logEntries
 entry-at disk i l few h =
@@ -43,27 +43,14 @@ entry-at disk i l few h =
     ∙ rw (getD-drop logAt disk (2 * i) 0, getD-drop logAt disk (2 * i + 1) 0, ← add-assoc logAt (2 * i) 1)
 
 -- there are as many as word 1 says
-pub entries-count : (disk : List ℕ) → length disk ≡ diskWords → logLength disk ≤ 128 → length (logEntries disk) ≡ logLength disk
+pub entries-count : (disk : List ℕ) → length disk ≡ diskWords → logLength disk ≤ bitmapWords → length (logEntries disk) ≡ logLength disk
 unfolding logEntries
 entries-count disk l few = length-entriesIn (logLength disk) (drop logAt disk) (omega (arith, length-drop logAt disk))
 
 -- ---- words with no bits from one on
 
--- a word has no bits from `bits` on if nothing of it is left when they are shifted out
-pub shifted-out : (word bits : ℕ) → eqb (word / 2 ^ bits) 0 ≡ ltb word (2 ^ bits)
-shifted-out word bits = go (ltb word (2 ^ bits)) refl
-  where
-    go : (t : Bool) → ltb word (2 ^ bits) ≡ t → eqb (word / 2 ^ bits) 0 ≡ ltb word (2 ^ bits)
-    go true e = eq-eqb (word / 2 ^ bits) 0 (div-eq-of-lt (ltb-true word (2 ^ bits) e)) ∙ sym e
-    go false e =
-        ne-eqb (word / 2 ^ bits) 0
-        (λ z.
-        let h : word < 1 * 2 ^ bits = div-lt-iff-lt-mul (pow-pos bits) .0 (omega arith) in
-        omega (arith, ltb-false word (2 ^ bits) e, one-mul (2 ^ bits)))
-        ∙ sym e
-
 -- 32 bits are all that a word has
-pub all-bits : (word bits : ℕ) → word < 2 ^ 32 → 32 ≤ bits → ltb word (2 ^ bits) ≡ true
+pub all-bits : (word bits : ℕ) → word < 2 ^ wordBits → wordBits ≤ bits → ltb word (2 ^ bits) ≡ true
 all-bits word bits h l = lt-ltb word (2 ^ bits) (omega (arith, pow-mono l))
 
 -- ---- the log's test, entry by entry
@@ -85,39 +72,40 @@ mayFollow blocks low number contents =
     leb low number && ltb number (wordsFor blocks) && ltb contents (2 ^ (blocks - 32 * number))
 
 -- a number that may follow is below W
-pub follows-below : (blocks low number contents : ℕ) (follows : Bool) → follows ≡ mayFollow blocks low number contents
+pub follows-below : (blocks low number contents : ℕ) {follows : Bool} → follows ≡ mayFollow blocks low number contents
     → follows ≡ true → number < wordsFor blocks
-follows-below blocks low number contents follows e t =
+follows-below blocks low number contents e t =
     ltb-true number (wordsFor blocks)
     (and-second (leb low number) _ (and-first _ (ltb contents (2 ^ (blocks - 32 * number))) (sym e ∙ t)))
 
-module _ (disk : List ℕ) (l : length disk ≡ diskWords) (few : logLength disk ≤ 128) where
+module _ (disk : List ℕ) (l : length disk ≡ diskWords) (few : logLength disk ≤ bitmapWords) where
   -- the entries from i on, by entry i and those behind it
-  entries-next : (low i number contents : ℕ) → i < logLength disk
+  entries-next : (low i : ℕ) {number contents : ℕ} → i < logLength disk
       → number ≡ getD disk (logAt + 2 * i) 0
       → contents ≡ getD disk (logAt + 2 * i + 1) 0
       → entriesValid (diskBlocks disk) low (drop i (logEntries disk))
       ≡ (mayFollow (diskBlocks disk) low number contents && entriesValid (diskBlocks disk) (number + 1) (drop (i + 1) (logEntries disk)))
   unfolding entriesValid
-  entries-next low i number contents h n v = rw (entry-at disk i l few h, add-one i, add-one number, n, v)
+  entries-next low i {number} {contents} h n v = rw (entry-at disk i l few h, add-one i, add-one number, n, v)
 
   -- they are not valid if entry i may not follow
-  pub entries-stop : (low i number contents : ℕ) (follows : Bool) → i < logLength disk
+  pub entries-stop : (low i : ℕ) {number contents : ℕ} {follows : Bool} → i < logLength disk
       → number ≡ getD disk (logAt + 2 * i) 0
       → contents ≡ getD disk (logAt + 2 * i + 1) 0
       → follows ≡ mayFollow (diskBlocks disk) low number contents
       → follows ≡ false
       → entriesValid (diskBlocks disk) low (drop i (logEntries disk)) ≡ false
-  entries-stop low i number contents follows h n v t f = entries-next low i number contents h n v ∙ and-none _ (sym t ∙ f)
+  entries-stop low i h n v t f = entries-next low i h n v ∙ and-none _ (sym t ∙ f)
 
   -- and are if it may and those behind it are
-  pub entries-go : (low i number contents : ℕ) (follows : Bool) → i < logLength disk
+  pub entries-go : (low i : ℕ) {number contents : ℕ} {follows : Bool} → i < logLength disk
       → number ≡ getD disk (logAt + 2 * i) 0
       → contents ≡ getD disk (logAt + 2 * i + 1) 0
       → follows ≡ mayFollow (diskBlocks disk) low number contents
       → follows ≡ true
-      → entriesValid (diskBlocks disk) low (drop i (logEntries disk)) ≡ entriesValid (diskBlocks disk) (number + 1) (drop (i + 1) (logEntries disk))
-  entries-go low i number contents follows h n v t f = entries-next low i number contents h n v ∙ and-left _ (sym t ∙ f)
+      → entriesValid (diskBlocks disk) low (drop i (logEntries disk))
+      ≡ entriesValid (diskBlocks disk) (number + 1) (drop (i + 1) (logEntries disk))
+  entries-go low i h n v t f = entries-next low i h n v ∙ and-left _ (sym t ∙ f)
 
   -- behind the last entry there is none
   pub entries-end : (low i : ℕ) → logLength disk ≤ i → entriesValid (diskBlocks disk) low (drop i (logEntries disk)) ≡ true

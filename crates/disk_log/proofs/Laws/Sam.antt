@@ -7,7 +7,7 @@ use native.Mathlib.Decide.{decLt}
 use native.Mathlib.Omega.{arith}
 use lib.ListN.{length, getD, take, drop, set, length-drop, List·getD-eq-default}
 use lib.Seq.{getD-drop, getD-take, take-suc, take-suc-set, take-all}
-use Rattle.bitmap.specs.Sizes.{bitmapWords}
+use Rattle.bitmap.specs.Sizes.{bitmapWords, wordBits}
 use Rattle.bitmap.specs.Bits.{IsBitmap}
 use Rattle.model.specs.Sizes.{diskWords, bitmapAt}
 use Rattle.model.specs.Disk.{diskBitmap}
@@ -32,10 +32,10 @@ copy-all disk words k m h e =
     sym (take-all k words (omega arith)) ∙ e ∙ ap (λ (n : ℕ). take n (drop bitmapAt disk)) h
 
 -- they are a bitmap
-pub bitmap-is : (disk : List ℕ) → length disk ≡ diskWords → ((i : ℕ) → getD disk i 0 < 2 ^ 32) → IsBitmap (diskBitmap disk)
+pub bitmap-is : (disk : List ℕ) → length disk ≡ diskWords → ((i : ℕ) → getD disk i 0 < 2 ^ wordBits) → IsBitmap (diskBitmap disk)
 bitmap-is disk l small = record { size = disk-bitmap-length disk l; small = λ k. go k (decLt k bitmapWords) }
   where
-    go : (k : ℕ) → Dec (k < bitmapWords) → getD (diskBitmap disk) k 0 < 2 ^ 32
+    go : (k : ℕ) → Dec (k < bitmapWords) → getD (diskBitmap disk) k 0 < 2 ^ wordBits
     go k (yes h) = rw (getD-take bitmapWords (drop bitmapAt disk) k 0 h, getD-drop bitmapAt disk k 0) (small (bitmapAt + k))
     go k (no h) =
         let past : length (diskBitmap disk) ≤ k = omega (arith, disk-bitmap-length disk l) in

@@ -6,8 +6,7 @@ use mathlib.Core.Bool.{Bool, true, false, _&&_}
 use mathlib.Core.List.{List, [], _∷_, _++_}
 use lib.ListN.{length}
 use lib.Dec.{leb, ltb, eqb}
-use borrow.Author.Tests.{leb-true, leb-false, ltb-true, ltb-false, eqb-true, eqb-false}
-use native.Mathlib.Omega.{arith}
+use borrow.Author.Tests.{leb-true, ltb-true, eqb-true, le-leb, lt-ltb, eq-eqb}
 use Rattle.model.specs.Valid.{sameWords}
 
 pub and-left : {a : Bool} (b : Bool) → a ≡ true → (a && b) ≡ b
@@ -31,33 +30,23 @@ and-exchange true false true d = refl
 and-exchange true false false d = refl
 and-exchange false b c d = refl
 
--- two tests of one fact
+-- two tests of one fact: each holds where the other does
+one-fact : (s t : Bool) → (s ≡ true → t ≡ true) → (t ≡ true → s ≡ true) → s ≡ t
+one-fact true t f g = sym (f refl)
+one-fact false true f g = g refl
+one-fact false false f g = refl
+
 pub leb-same : (a b c d : ℕ) → (a ≤ b → c ≤ d) → (c ≤ d → a ≤ b) → leb a b ≡ leb c d
-leb-same a b c d f g = go (leb a b) (leb c d) refl refl
-  where
-    go : (s t : Bool) → leb a b ≡ s → leb c d ≡ t → s ≡ t
-    go true true e h = refl
-    go true false e h = absurd (omega (arith, f (leb-true a b e), leb-false c d h))
-    go false true e h = absurd (omega (arith, g (leb-true c d h), leb-false a b e))
-    go false false e h = refl
+leb-same a b c d f g =
+    one-fact (leb a b) (leb c d) (λ e. le-leb c d (f (leb-true a b e))) (λ e. le-leb a b (g (leb-true c d e)))
 
 pub ltb-same : (a b c d : ℕ) → (a < b → c < d) → (c < d → a < b) → ltb a b ≡ ltb c d
-ltb-same a b c d f g = go (ltb a b) (ltb c d) refl refl
-  where
-    go : (s t : Bool) → ltb a b ≡ s → ltb c d ≡ t → s ≡ t
-    go true true e h = refl
-    go true false e h = absurd (omega (arith, f (ltb-true a b e), ltb-false c d h))
-    go false true e h = absurd (omega (arith, g (ltb-true c d h), ltb-false a b e))
-    go false false e h = refl
+ltb-same a b c d f g =
+    one-fact (ltb a b) (ltb c d) (λ e. lt-ltb c d (f (ltb-true a b e))) (λ e. lt-ltb a b (g (ltb-true c d e)))
 
 pub eqb-same : (a b c d : ℕ) → (a ≡ b → c ≡ d) → (c ≡ d → a ≡ b) → eqb a b ≡ eqb c d
-eqb-same a b c d f g = go (eqb a b) (eqb c d) refl refl
-  where
-    go : (s t : Bool) → eqb a b ≡ s → eqb c d ≡ t → s ≡ t
-    go true true e h = refl
-    go true false e h = absurd (eqb-false c d h (f (eqb-true a b e)))
-    go false true e h = absurd (eqb-false a b e (g (eqb-true c d h)))
-    go false false e h = refl
+eqb-same a b c d f g =
+    one-fact (eqb a b) (eqb c d) (λ e. eq-eqb c d (f (eqb-true a b e))) (λ e. eq-eqb a b (g (eqb-true c d e)))
 
 -- lists of words compared part by part
 pub same-append : (a b c d : List ℕ) → length a ≡ length c → sameWords (a ++ b) (c ++ d) ≡ (sameWords a c && sameWords b d)

@@ -1,30 +1,27 @@
 -- The lines left fall.
-use mathlib.Core.Path.{sym}
+use Prim.Native.Nat.{_+_, _≤_, _-_}
 use native.Mathlib.Omega.{arith}
-use lib.Seq.{length-take-le}
-use Prim.Native.Nat.{_≤_, _-_}
-use mathlib.Core.Path.{_≡_}
+use mathlib.Core.Path.{_≡_, sym}
 use lib.ListN.{length}
+use lib.Seq.{length-take-le}
 use Rattle.printing.specs.Waits.{Waits}
 use Rattle.inspect_run.specs.Sized.{Sized}
-use Rattle.inspect_run.specs.Reads.{Reading}
+use Rattle.inspect_run.specs.Reads.{Reading, kept, maxLines}
 use borrow.Author.Needs.{needs}
 use Rattle.inspect_run.proofs.answer_all.Statement.{statement}
 use Rattle.inspect_run.proofs.answer_all.Tie as tie
-use Rattle.inspect_run.proofs.fixture.Fixture.new.Reads as fixture-Fixture-new-reads
-use Rattle.inspect_run.proofs.lines.Reader.new.Reads as lines-Reader-new-reads
 
 abbrev Inv-loop : tie.InvT-loop
 Inv-loop input₀ line₀ out₀ at fixture₀ reader₀ end₀ number₀ input line out fixture reader end number =
     (length input ≡ length input₀)
-    × (length line ≡ 65)
+    × (length line ≡ kept)
     × Waits out end
     × Sized fixture
     × Reading (length input) reader
-    × (number ≤ 60001)
+    × (number ≤ maxLines + 1)
 
 abbrev μ-loop : tie.MeasureT-loop
-μ-loop input₀ line₀ out₀ at fixture₀ reader₀ end₀ number₀ input line out fixture reader end number = 60001 - number
+μ-loop input₀ line₀ out₀ at fixture₀ reader₀ end₀ number₀ input line out fixture reader end number = maxLines + 1 - number
 
 new-requires : tie.Need-new-requires Inv-loop μ-loop
 new-requires c κs = search needs
@@ -57,7 +54,9 @@ slice-aggregate-answer : tie.Need-slice-aggregate-answer Inv-loop μ-loop
 slice-aggregate-answer c =
     let n = c .before .before .before .before .before .before .before .next-line in
     let i = c .before .before .before .before .before .before .before .before .before .before .before .loop .inv in
-    sym (length-take-le (n .result .len) (n .last .1 .1 .0) (omega (arith, n .ensures .line, n .kept .1 .1 .0, i .1)))
+    let last = n .last .1 in
+    let same = n .kept .1 in
+    sym (length-take-le (n .result .len) (last .1 .0) (omega (arith, n .ensures .line, same .1 .0, i .1)))
 
 answer-requires : tie.Need-answer-requires Inv-loop μ-loop
 answer-requires c κs = search needs
@@ -70,10 +69,19 @@ loop-less c = search needs
 
 loop-again : tie.Need-loop-again Inv-loop μ-loop
 loop-again c =
-    let i = c .before .before .before .before .before .before .before .before .before .before .before .before .before .before .before .before .loop .inv in
-    let n = c .before .before .before .before .before .before .before .before .before .before .before .before .next-line in
-    let a = c .before .before .before .answer in
-    (omega (arith, i .0, n .kept .0), omega (arith, i .1, n .kept .1 .1 .0), a .ensures .1, a .ensures .0, n .ensures, omega (arith, c .before .before .before .before .before .before .before .before .before .before .before .before .before .before .before .loop-test .taken))
+    let answered = c .before .before .before in
+    let read = answered .before .before .before .before .before .before .before .before .before in
+    let turn = read .before .before .before in
+    let i = turn .before .loop .inv in
+    let n = read .next-line in
+    let same = n .kept .1 in (
+      omega (arith, i .0, n .kept .0),
+      omega (arith, i .1, same .1 .0),
+      answered .answer .ensures .1,
+      answered .answer .ensures .0,
+      n .ensures,
+      omega (arith, turn .loop-test .taken),
+    )
 
 same-length-4 : tie.Need-same-length-4 Inv-loop μ-loop
 same-length-4 c = search needs

@@ -1,6 +1,5 @@
 -- Each byte has its place.
 use Prim.Native.Nat.{_≤_, _-_}
-use mathlib.Core.Path.{_≡_}
 use native.Mathlib.Omega.{arith}
 use lib.ListN.{length, length-set}
 use Rattle.printing.specs.Waits.{Waits}

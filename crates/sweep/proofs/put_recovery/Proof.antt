@@ -2,13 +2,14 @@
 use Prim.Native.Nat.{_≤_, _-_}
 use mathlib.Core.Path.{_≡_}
 use lib.ListN.{length}
+use Rattle.model.specs.Sizes.{diskWords}
 use Rattle.printing.specs.Waits.{Waits}
 use borrow.Author.Needs.{needs}
 use Rattle.sweep.proofs.put_recovery.Statement.{statement}
 use Rattle.sweep.proofs.put_recovery.Tie as tie
 
 abbrev Inv-loop : tie.InvT-loop
-Inv-loop out₀ at memory₀ due disk₀ end₀ stores₀ out memory disk end stores = Waits out end × (length disk ≡ 386) × (stores ≤ due)
+Inv-loop out₀ at memory₀ due disk₀ end₀ stores₀ out memory disk end stores = Waits out end × (length disk ≡ diskWords) × (stores ≤ due)
 
 abbrev μ-loop : tie.MeasureT-loop
 μ-loop out₀ at memory₀ due disk₀ end₀ stores₀ out memory disk end stores = due - stores

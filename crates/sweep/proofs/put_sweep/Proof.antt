@@ -3,12 +3,13 @@ use Prim.Native.Nat.{_≤_, _-_}
 use mathlib.Core.Path.{_≡_}
 use lib.ListN.{length}
 use borrow.Author.Needs.{needs}
+use Rattle.model.specs.Sizes.{diskWords}
 use Rattle.printing.specs.Waits.{Waits}
 use Rattle.sweep.proofs.put_sweep.Statement.{statement}
 use Rattle.sweep.proofs.put_sweep.Tie as tie
 
 abbrev Inv-loop : tie.InvT-loop
-Inv-loop out₀ at disk₀ due memory₀ end₀ stores₀ out disk memory end stores = Waits out end × (length disk ≡ 386) × (stores ≤ due)
+Inv-loop out₀ at disk₀ due memory₀ end₀ stores₀ out disk memory end stores = Waits out end × (length disk ≡ diskWords) × (stores ≤ due)
 
 abbrev μ-loop : tie.MeasureT-loop
 μ-loop out₀ at disk₀ due memory₀ end₀ stores₀ out disk memory end stores = due - stores

@@ -1,4 +1,4 @@
--- `bitops::available::available_word` meets its contract: of the last word it keeps the bits below the volume's end, of the words before all.
+-- `available::available::available_word` meets its contract: of the last word it keeps the bits below the volume's end, of the words before all.
 use Prim.Native.Nat.{_*_, _-_}
 use native.Mathlib.Omega.{arith}
 use lib.Pow.{pow-pos}

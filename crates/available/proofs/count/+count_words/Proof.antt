@@ -1,4 +1,5 @@
-use Prim.Native.Nat.{ℕ, _<_, _+_, _*_, _-_}
+-- `available::count::count_words` meets its contract, by the number of its words: each half has fewer.
+use Prim.Native.Nat.{ℕ, _+_, _*_, _-_, _<_}
 use native.Mathlib.Omega.{arith}
 use mathlib.Core.Path.{_≡_}
 use borrow.Author.Needs.{needs}
@@ -14,7 +15,10 @@ use Rattle.available.proofs.count.+count_words.{statement}
 use Rattle.available.proofs.count.+count_words.Tie.{close}
 
 abbrev μ-count-words : Measures 2 count-words-kinds.ps ℕ
-μ-count-words κs a = a .1 .1 .1 .1 .0 - a .1 .1 .1 .0
+μ-count-words κs a =
+    let numbers = a .1 .1 in
+    let bounds = numbers .1 in
+    bounds .1 .0 - bounds .0
 
 abbrev count-words-at : ℕ → In 2 count-words-kinds.ps
 count-words-at t =
@@ -22,84 +26,43 @@ count-words-at t =
 
 abbrev count-words-below : ℕ → In 2 count-words-kinds.ps
 count-words-below t =
-    and 2 count-words-kinds.ps (falls 2 count-words-kinds.ps _<_ μ-count-words t) count-words.Pre
+    and 2 count-words-kinds.ps (falls 2 count-words-kinds.ps (λ (m n : ℕ). m < n) μ-count-words t) count-words.Pre
 
--- src/count.rt:45:8
-count-words-sub-if1 : (t : ℕ) → count-words-lts.Need-sub-if1 (
-  count-word-reads.Asked,
-  count-word-reads.Learnt,
-  count-words-below t,
-  count-words.Post,
-) (count-words-at t) count-words.Post
+-- what is known of the functions that it calls
+abbrev claims : ℕ → count-words-lts.Claims
+claims t = (count-word-reads.Asked, count-word-reads.Learnt, count-words-below t, count-words.Post)
+
+count-words-sub-if1 : (t : ℕ) → count-words-lts.Need-sub-if1 (claims t) (count-words-at t) count-words.Post
 count-words-sub-if1 t c = search needs
 
--- src/count.rt:46:9
-count-words-count-word-requires : (t : ℕ) → count-words-lts.Need-count-word-requires (
-  count-word-reads.Asked,
-  count-word-reads.Learnt,
-  count-words-below t,
-  count-words.Post,
-) (count-words-at t) count-words.Post
+count-words-count-word-requires : (t : ℕ) → count-words-lts.Need-count-word-requires (claims t) (count-words-at t) count-words.Post
 count-words-count-word-requires t c κs =
-    let p = c .before .pre .1 in (p .0, (p .1 .0, (p .1 .1 .0, omega arith)))
+    let p = c .before .pre .1 in
+    (p .0, (p .1 .0, (omega arith, omega arith)))
 
--- src/count.rt:46:9
-count-words-returns : (t : ℕ) → count-words-lts.Need-returns (
-  count-word-reads.Asked,
-  count-word-reads.Learnt,
-  count-words-below t,
-  count-words.Post,
-) (count-words-at t) count-words.Post
+count-words-returns : (t : ℕ) → count-words-lts.Need-returns (claims t) (count-words-at t) count-words.Post
 count-words-returns t c =
     let a = c .before .before .args in
     let next : a .lo + 1 ≡ a .hi = omega (arith, c .before .if1 .taken) in
     rw next at (c .count-word .ensures)
 
--- src/count.rt:48:24
-count-words-sub-middle : (t : ℕ) → count-words-lts.Need-sub-middle (
-  count-word-reads.Asked,
-  count-word-reads.Learnt,
-  count-words-below t,
-  count-words.Post,
-) (count-words-at t) count-words.Post
+count-words-sub-middle : (t : ℕ) → count-words-lts.Need-sub-middle (claims t) (count-words-at t) count-words.Post
 count-words-sub-middle t c = search needs
 
--- src/count.rt:48:18
-count-words-add-middle : (t : ℕ) → count-words-lts.Need-add-middle (
-  count-word-reads.Asked,
-  count-word-reads.Learnt,
-  count-words-below t,
-  count-words.Post,
-) (count-words-at t) count-words.Post
+count-words-add-middle : (t : ℕ) → count-words-lts.Need-add-middle (claims t) (count-words-at t) count-words.Post
 count-words-add-middle t c = search needs
 
--- src/count.rt:49:9
-count-words-count-words-requires : (t : ℕ) → count-words-lts.Need-count-words-requires (
-  count-word-reads.Asked,
-  count-word-reads.Learnt,
-  count-words-below t,
-  count-words.Post,
-) (count-words-at t) count-words.Post
+count-words-count-words-requires : (t : ℕ) → count-words-lts.Need-count-words-requires (claims t) (count-words-at t) count-words.Post
 count-words-count-words-requires t c κs =
-    let p = c .before .pre .1 in (omega arith, (p .0, (p .1 .0, (p .1 .1 .0, (omega arith, omega arith)))))
+    let p = c .before .pre .1 in
+    (omega arith, (p .0, (p .1 .0, (omega arith, (omega arith, omega arith)))))
 
--- src/count.rt:50:9
-count-words-count-words-requires-2 : (t : ℕ) → count-words-lts.Need-count-words-requires-2 (
-  count-word-reads.Asked,
-  count-word-reads.Learnt,
-  count-words-below t,
-  count-words.Post,
-) (count-words-at t) count-words.Post
+count-words-count-words-requires-2 : (t : ℕ) → count-words-lts.Need-count-words-requires-2 (claims t) (count-words-at t) count-words.Post
 count-words-count-words-requires-2 t c κs =
-    let p = c .before .before .pre .1 in (omega arith, (p .0, (p .1 .0, (p .1 .1 .0, (omega arith, omega arith)))))
+    let p = c .before .before .pre .1 in
+    (omega arith, (p .0, (p .1 .0, (omega arith, (omega arith, omega arith)))))
 
--- src/count.rt:51:5
-count-words-add-result : (t : ℕ) → count-words-lts.Need-add-result (
-  count-word-reads.Asked,
-  count-word-reads.Learnt,
-  count-words-below t,
-  count-words.Post,
-) (count-words-at t) count-words.Post
+count-words-add-result : (t : ℕ) → count-words-lts.Need-add-result (claims t) (count-words-at t) count-words.Post
 count-words-add-result t c =
     let a = c .before .before .before .args in
     omega (
@@ -109,23 +72,12 @@ count-words-add-result t c =
       from-length (isAvailable (a .sam .now) (a .«com» .now)) (a .blocks) (32 * a .lo),
     )
 
--- src/count.rt:37:1
-count-words-returns-2 : (t : ℕ) → count-words-lts.Need-returns-2 (
-  count-word-reads.Asked,
-  count-word-reads.Learnt,
-  count-words-below t,
-  count-words.Post,
-) (count-words-at t) count-words.Post
+count-words-returns-2 : (t : ℕ) → count-words-lts.Need-returns-2 (claims t) (count-words-at t) count-words.Post
 count-words-returns-2 t c =
     omega (arith, c .before .count-words .ensures, c .count-words2 .ensures)
 
 pub +count-words-spec : {M : Type 1} → statement M
-+count-words-spec = close μ-count-words λ t. count-words-lts.spec (
-  count-word-reads.Asked,
-  count-word-reads.Learnt,
-  count-words-below t,
-  count-words.Post,
-)
++count-words-spec = close μ-count-words λ t. count-words-lts.spec (claims t)
     (count-words-at t)
     count-words.Post
     (count-words-sub-if1 t)

@@ -1,4 +1,4 @@
--- `bitops::count::count_available` meets its contract: the volume's words hold all its blocks.
+-- `available::count::count_available` meets its contract: the volume's words hold all its blocks.
 use Prim.Native.Nat.{_+_, _*_, _/_}
 use native.Mathlib.Nat.{pos-of-ne-zero}
 use native.Mathlib.Omega.{arith}
@@ -25,13 +25,19 @@ cast-count-words : tie.Need-cast-count-words
 cast-count-words c = search needs
 
 count-words-requires : tie.Need-count-words-requires
-count-words-requires c κs = let p = c .before .pre in (p .0, (p .1 .0, (p .1 .1, (omega (arith, pos-of-ne-zero (c .if1 .left)), omega arith))))
+count-words-requires c κs =
+    let p = c .before .pre in
+    (p .0, (p .1 .0, (p .1 .1, (omega (arith, pos-of-ne-zero (c .if1 .left)), omega arith))))
 
 returns-2 : tie.Need-returns-2
 unfolding availableBlocks
 returns-2 c =
     let a = c .before .before .args in
-    omega (arith, c .count-words .ensures, available-none (a .blocks) (a .sam .now) (a .«com» .now) (32 * ((a .blocks + 31) / 32)) (omega arith))
+    omega (
+      arith,
+      c .count-words .ensures,
+      available-none (a .blocks) (a .sam .now) (a .«com» .now) (32 * ((a .blocks + 31) / 32)) (omega arith),
+    )
 
 pub count-available-spec : {M : Type 1} → statement M
 count-available-spec =

@@ -1,4 +1,4 @@
--- `bitops::count::count_word` meets its contract: the ones of the word are the available blocks.
+-- `available::count::count_word` meets its contract: the ones of the word are the available blocks.
 use Rattle.available.proofs.Laws.Available.{available-count}
 use borrow.Author.Needs.{needs}
 use Rattle.available.proofs.count.count_word.Statement.{statement}

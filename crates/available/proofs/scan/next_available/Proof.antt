@@ -1,4 +1,4 @@
--- `bitops::scan::next_available` meets its contract. The loop's invariant: no block before `block` is available, so that the available blocks
+-- `available::scan::next_available` meets its contract. The loop's invariant: no block before `block` is available, so that the available blocks
 -- from it on are those from `start` on.
 use Prim.Native.Nat.{ℕ, _-_}
 use native.Mathlib.Omega.{arith}
@@ -35,7 +35,7 @@ add-result c =
     let at-loop = at-word .before .before in
     let a = at-loop .before .args in
     let p = at-loop .before .pre in
-    let found = word-found (a .blocks) (a .sam .now) (a .«com» .now) (at-loop .loop .block) (p .0) (p .1 .0) (at-word .available-word .result) (at-word .available-word .ensures) (c .if1 .taken) in
+    let found = word-found (a .blocks) (at-loop .loop .block) (p .0) (p .1 .0) (at-word .available-word .ensures) (c .if1 .taken) in
     omega (arith, found .0)
 
 returns : tie.Need-returns Inv-loop μ-loop
@@ -45,7 +45,7 @@ returns c =
     let at-loop = at-word .before .before in
     let a = at-loop .before .args in
     let p = at-loop .before .pre in
-    let found = word-found (a .blocks) (a .sam .now) (a .«com» .now) (at-loop .loop .block) (p .0) (p .1 .0) (at-word .available-word .result) (at-word .available-word .ensures) (c .if1 .taken) in
+    let found = word-found (a .blocks) (at-loop .loop .block) (p .0) (p .1 .0) (at-word .available-word .ensures) (c .if1 .taken) in
     sym (ap (λ (l : List ℕ). getD l 0 (a .blocks)) (at-loop .loop .inv ∙ found .1))
 
 add-block : tie.Need-add-block Inv-loop μ-loop
@@ -63,14 +63,17 @@ loop-again c =
     let at-loop = at-word .before .before in
     let a = at-loop .before .args in
     let p = at-loop .before .pre in
-    at-loop .loop .inv ∙ word-none (a .blocks) (a .sam .now) (a .«com» .now) (at-loop .loop .block) (p .0) (p .1 .0) (at-word .available-word .result) (at-word .available-word .ensures) (c .if1 .left)
+    at-loop .loop .inv
+    ∙ word-none (a .blocks) (at-loop .loop .block) (p .0) (p .1 .0) (at-word .available-word .ensures) (c .if1 .left)
 
 returns-2 : tie.Need-returns-2 Inv-loop μ-loop
 unfolding nextAvailable
 returns-2 c =
     let at-loop = c .before in
     let a = at-loop .before .args in
-    sym (ap (λ (l : List ℕ). getD l 0 (a .blocks)) (at-loop .loop .inv) ∙ next-end (a .blocks) (a .sam .now) (a .«com» .now) (at-loop .loop .block) (c .loop-test .left))
+    sym
+    (ap (λ (l : List ℕ). getD l 0 (a .blocks)) (at-loop .loop .inv)
+    ∙ next-end (a .blocks) (a .sam .now) (a .«com» .now) (at-loop .loop .block) (c .loop-test .left))
 
 pub next-available-spec : {M : Type 1} → statement M
 next-available-spec =

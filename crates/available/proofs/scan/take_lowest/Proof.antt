@@ -1,17 +1,19 @@
--- `bitops::scan::take_lowest` meets its contract. The loop's invariant: the first n available blocks are taken, and the others are those from
+-- `available::scan::take_lowest` meets its contract. The loop's invariant: the first n available blocks are taken, and the others are those from
 -- `next` on.
 use Prim.Native.Nat.{_≤_, _<_, _-_}
 use native.Mathlib.Omega.{arith}
-use mathlib.Core.Path.{_≡_, refl, sym, _∙_}
+use mathlib.Core.Path.{_≡_, refl, _∙_}
 use lib.ListN.{length, length-set}
 use borrow.Author.Needs.{needs}
-use Rattle.bitmap.specs.Blocks.{availableBlocks}
 use Rattle.available.proofs.Laws.Take.{Taken, taken-none, taken-is, found-below, taken-more}
 use Rattle.available.proofs.scan.take_lowest.Statement.{statement}
 use Rattle.available.proofs.scan.take_lowest.Tie as tie
 
 abbrev Inv-loop : tie.InvT-loop
-Inv-loop sam com₀ tam₀ list₀ blocks count next₀ n₀ «com» tam list next n = (n ≤ count) × (length list ≡ length list₀) × Taken blocks sam com₀ tam₀ list₀ n next «com» tam list
+Inv-loop sam com₀ tam₀ list₀ blocks count next₀ n₀ «com» tam list next n =
+    (n ≤ count)
+    × (length list ≡ length list₀)
+    × Taken blocks sam com₀ tam₀ list₀ n next «com» tam list
 
 abbrev μ-loop : tie.MeasureT-loop
 μ-loop sam com₀ tam₀ list₀ blocks count next₀ n₀ «com» tam list next n = count - n
@@ -20,29 +22,20 @@ abbrev μ-loop : tie.MeasureT-loop
 in-volume : (c : tie.After-next-available Inv-loop μ-loop) → c .next-available .result < c .before .before .before .before .before .args .blocks
 in-volume c =
     let at-loop = c .before .before .before in
-    let a = at-loop .before .before .args in
     let p = at-loop .before .before .pre in
-    found-below (a .blocks) (a .sam .now) (a .«com» .now) (a .tam .now) (a .list .now) (p .volume) (at-loop .loop .n) (at-loop .loop .next)
-    (at-loop .loop .«com») (at-loop .loop .tam) (at-loop .loop .list) (at-loop .loop .inv .2) (c .next-available .result)
-    (omega (arith, c .before .before .loop-test .taken, p .enough)) (c .next-available .ensures)
+    found-below (p .volume) (at-loop .loop .inv .2) (omega (arith, c .before .before .loop-test .taken, p .enough))
+    (c .next-available .ensures)
 
 loop-holds : tie.Need-loop-holds Inv-loop μ-loop
 loop-holds c =
-    let a = c .before .args in
     let p = c .before .pre in
-    (search needs, refl, taken-none (a .blocks) (a .sam .now) (a .«com» .now) (a .tam .now) (a .list .now) (p .volume) (p .isCom) (p .isTam) (p .endOfCom) (p .endOfTam))
+    (search needs, refl, taken-none (p .volume) (p .isCom) (p .isTam) (p .endOfCom) (p .endOfTam))
 
 next-available-requires : tie.Need-next-available-requires Inv-loop μ-loop
 next-available-requires c κs =
     let at-loop = c .before .before in
-    let a = at-loop .before .before .args in
-    let p = at-loop .before .before .pre in (
-      p .isSam,
-      (
-        taken-is (a .blocks) (a .sam .now) (a .«com» .now) (a .tam .now) (a .list .now) (p .volume) (at-loop .loop .n) (at-loop .loop .next) (at-loop .loop .«com») (at-loop .loop .tam) (at-loop .loop .list) (at-loop .loop .inv .2),
-        p .volume,
-      ),
-    )
+    let p = at-loop .before .before .pre in
+    (p .isSam, (taken-is (p .volume) (at-loop .loop .inv .2), p .volume))
 
 put-requires : tie.Need-put-requires Inv-loop μ-loop
 put-requires c κs = omega (arith, in-volume (c .before), c .before .before .before .before .before .before .pre .volume)
@@ -74,21 +67,18 @@ loop-again : tie.Need-loop-again Inv-loop μ-loop
 loop-again c =
     let at-found = c .before .before .before .before in
     let at-loop = at-found .before .before .before in
-    let a = at-loop .before .before .args in
     let p = at-loop .before .before .pre in
     let turn = at-found .before .before .loop-test .taken in
     let found = at-found .next-available .result in (
       search needs,
       length-set (at-loop .loop .list) (at-loop .loop .n) found ∙ at-loop .loop .inv .1,
       rw (c .before .before .put .ensures, c .put2 .ensures)
-          (taken-more (a .blocks) (a .sam .now) (a .«com» .now) (a .tam .now) (a .list .now) (p .volume) (at-loop .loop .n) (at-loop .loop .next)
-          (at-loop .loop .«com») (at-loop .loop .tam) (at-loop .loop .list) (at-loop .loop .inv .2) found (omega (arith, p .enough))
-          (at-found .next-available .ensures) (omega (arith, p .room))),
+          (taken-more (p .volume) (at-loop .loop .inv .2) (omega (arith, p .enough)) (at-found .next-available .ensures)
+          (omega (arith, p .room))),
     )
 
 same-length : tie.Need-same-length Inv-loop μ-loop
-same-length c =
-    c .before .loop .inv .1
+same-length c = c .before .loop .inv .1
 
 returns : tie.Need-returns Inv-loop μ-loop
 returns c =

@@ -1,4 +1,5 @@
 -- The line is whole where the number ends with it.
+use Prim.Native.Nat.{ℕ}
 use mathlib.Core.Path.{sym, subst}
 use borrow.Author.Needs.{needs}
 use Rattle.bench_line.specs.Number.{NumberRead, NumberIs}
@@ -15,7 +16,16 @@ enum-known-value c = search needs
 enum-told : tie.Need-enum-told
 enum-told c = search needs
 
-read : (c : tie.After-value) → NumberRead (c .before .before .before .before .args .line .now) (c .before .before .before .before .args .at) (c .value .given .0 .0) (c .value .given .0 .1 .0)
+-- the number that is read, and the index after it
+abbrev value-of : tie.After-value → ℕ
+value-of c = c .value .given .0 .0
+
+abbrev next-of : tie.After-value → ℕ
+next-of c = let fields = c .value .given .0 in fields .1 .0
+
+read : (c : tie.After-value)
+    → let a = c .before .before .before .before .args in
+    NumberRead (a .line .now) (a .at) (value-of c) (next-of c)
 read c =
     let a = c .before .before .before .before .args in
     subst (NumberIs (a .line .now) (a .at)) (c .value .given .1) (c .before .before .number-at .ensures)
@@ -24,18 +34,19 @@ returns : tie.Need-returns
 returns c =
     let v = c .before .before in
     let a = v .before .before .before .before .args in
-    sym (n-last (a .op) (a .line .now) (a .at) (v .value .given .0 .0) (v .value .given .0 .1 .0) (read v) (a .slot) (c .if1 .taken))
+    sym (n-last (a .op) (read v) (a .slot) (c .if1 .taken))
 
 returns-2 : tie.Need-returns-2
 returns-2 c =
     let v = c .before .before in
     let a = v .before .before .before .before .args in
-    sym (n-not-last (a .op) (a .line .now) (a .at) (v .value .given .0 .0) (v .value .given .0 .1 .0) (read v) (a .slot) (c .if1 .left))
+    sym (n-not-last (a .op) (read v) (a .slot) (c .if1 .left))
 
 returns-3 : tie.Need-returns-3
 returns-3 c =
     let a = c .before .before .before .before .args in
-    sym (no-n (a .op) (a .line .now) (a .at) (subst (NumberIs (a .line .now) (a .at)) (c .enum-told .given .1) (c .before .before .number-at .ensures)) (a .slot))
+    let unread = subst (NumberIs (a .line .now) (a .at)) (c .enum-told .given .1) (c .before .before .number-at .ensures) in
+    sym (no-n (a .op) (a .line .now) (a .at) unread (a .slot))
 
 pub number-field-spec : {M : Type 1} → statement M
 number-field-spec =

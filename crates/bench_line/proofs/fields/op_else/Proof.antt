@@ -24,14 +24,18 @@ returns c =
     let a = s .args in
     let rest = drop (3 + length (a .word .now)) (a .line .now) in
     c .slot-number .ensures
-    ∙ sym (op-found (a .op) (a .word .now) (drop 3 (a .line .now)) (a .other) (s .pre .1) rest (found (a .line .now) 3 (a .word .now) (w .starts-with .result) (w .starts-with .ensures) (c .before .if1 .taken)))
+    ∙ sym
+    (op-found (a .op) (a .word .now) (drop 3 (a .line .now)) (a .other) (s .pre .1) rest
+    (found (w .starts-with .ensures) (c .before .if1 .taken)))
 
 returns-2 : tie.Need-returns-2
 returns-2 c =
     let w = c .before in
     let s = w .before .before .before in
     let a = s .args in
-    sym (op-missing (a .op) (a .word .now) (drop 3 (a .line .now)) (a .other) (s .pre .1) (missing (a .line .now) 3 (a .word .now) (w .starts-with .result) (w .starts-with .ensures) (c .if1 .left)))
+    sym
+    (op-missing (a .op) (a .word .now) (drop 3 (a .line .now)) (a .other) (s .pre .1)
+    (missing (w .starts-with .ensures) (c .if1 .left)))
 
 pub op-else-spec : {M : Type 1} → statement M
 op-else-spec =

@@ -87,7 +87,8 @@ op-else-requires-11 c κs = search needs
 abbrev bytes : tie.After-shared-slice-known2 → List ℕ
 bytes c = drop 3 (c .before .before .before .args .line .now)
 
-from-letter : (c : tie.After-shared-slice-known2) (b : ℕ) → getD (c .before .before .before .args .line .now) 3 0 ≡ b → parseOp ops (bytes c) ≡ parseOp (opsWith b ops) (bytes c)
+from-letter : (c : tie.After-shared-slice-known2) (b : ℕ) → getD (c .before .before .before .args .line .now) 3 0 ≡ b
+    → parseOp ops (bytes c) ≡ parseOp (opsWith b ops) (bytes c)
 from-letter c b e = at-letter (c .before .before .before .args .line .now) b (c .before .if1 .left) e
 
 returns-2 : tie.Need-returns-2
@@ -101,14 +102,18 @@ unfolding ops parseOp opElse
 returns-3 c =
     let cut = c .before .before in
     let m = cut .before .before in
-    c .op-else3 .ensures ∙ ap (opElse Op.Commit (bytes (m .before))) (cut .op-else2 .ensures) ∙ sym (from-letter (m .before) 99 (m .match .keys2))
+    c .op-else3 .ensures
+    ∙ ap (opElse Op.Commit (bytes (m .before))) (cut .op-else2 .ensures)
+    ∙ sym (from-letter (m .before) 99 (m .match .keys2))
 
 returns-4 : tie.Need-returns-4
 unfolding ops parseOp opElse
 returns-4 c =
     let free = c .before .before in
     let m = free .before .before in
-    c .op-else5 .ensures ∙ ap (opElse Op.Format (bytes (m .before))) (free .op-else4 .ensures) ∙ sym (from-letter (m .before) 102 (m .match .keys3))
+    c .op-else5 .ensures
+    ∙ ap (opElse Op.Format (bytes (m .before))) (free .op-else4 .ensures)
+    ∙ sym (from-letter (m .before) 102 (m .match .keys3))
 
 returns-5 : tie.Need-returns-5
 unfolding ops parseOp opElse
@@ -143,8 +148,14 @@ unfolding parseOp
 returns-9 c =
     let k = c .before in
     let first = getD (k .before .before .before .args .line .now) 3 0 in
-    let r = c .match .rest in
-    let none = no-ops first (r .0 .0 .0 .0 .0 .0 .1) (r .0 .0 .0 .0 .0 .1) (r .0 .0 .0 .0 .1) (r .0 .0 .0 .1) (r .0 .0 .1) (r .0 .1) (r .1) in
+    let s = c .match .rest in
+    let r = s .0 in
+    let p = r .0 in
+    let o = p .0 in
+    let f = o .0 in
+    let cs = f .0 in
+    let a = cs .0 in
+    let none = no-ops first (a .1) (cs .1) (f .1) (o .1) (p .1) (r .1) (s .1) in
     sym (from-letter k first refl ∙ ap (λ (list : List Op). parseOp list (bytes k)) none)
 
 pub parse-op-spec : {M : Type 1} → statement M

@@ -1,8 +1,9 @@
 -- The slot's number, then " n=" behind it, then what `number_field` makes of the rest.
+use Prim.Native.Nat.{ℕ}
 use mathlib.Core.Path.{sym, ap, _∙_, subst}
 use native.Mathlib.Omega.{arith}
 use borrow.Author.Needs.{needs}
-use Rattle.model.specs.Line.{countField, numberField}
+use Rattle.model.specs.Line.{numberField}
 use Rattle.bench_line.specs.Number.{NumberRead, NumberIs}
 use Rattle.bench_line.proofs.Laws.Prefix.{found, missing}
 use Rattle.bench_line.proofs.Laws.Fields.{no-slot, no-count-field, slot-read}
@@ -15,7 +16,16 @@ number-at-requires c κs = search needs
 enum-known-value : tie.Need-enum-known-value
 enum-known-value c = search needs
 
-read : (c : tie.After-value) → NumberRead (c .before .before .before .before .args .line .now) (c .before .before .before .before .args .at) (c .value .given .0 .0) (c .value .given .0 .1 .0)
+-- the number that is read, and the index after it
+abbrev value-of : tie.After-value → ℕ
+value-of c = c .value .given .0 .0
+
+abbrev next-of : tie.After-value → ℕ
+next-of c = let fields = c .value .given .0 in fields .1 .0
+
+read : (c : tie.After-value)
+    → let a = c .before .before .before .before .args in
+    NumberRead (a .line .now) (a .at) (value-of c) (next-of c)
 read c =
     let a = c .before .before .before .before .args in
     subst (NumberIs (a .line .now) (a .at)) (c .value .given .1) (c .before .before .number-at .ensures)
@@ -41,8 +51,8 @@ returns c =
     let v = w .before .before .before in
     let a = v .before .before .before .before .args in
     c .number-field .ensures
-    ∙ ap (numberField (a .op) (v .value .given .0 .0)) (sym (found (a .line .now) (v .value .given .0 .1 .0) countField (w .starts-with .result) (w .starts-with .ensures) (c .before .if1 .taken)))
-    ∙ sym (slot-read (a .op) (a .line .now) (a .at) (v .value .given .0 .0) (v .value .given .0 .1 .0) (read v))
+    ∙ ap (numberField (a .op) (value-of v)) (sym (found (w .starts-with .ensures) (c .before .if1 .taken)))
+    ∙ sym (slot-read (a .op) (read v))
 
 returns-2 : tie.Need-returns-2
 returns-2 c =
@@ -50,14 +60,15 @@ returns-2 c =
     let v = w .before .before .before in
     let a = v .before .before .before .before .args in
     sym
-    (slot-read (a .op) (a .line .now) (a .at) (v .value .given .0 .0) (v .value .given .0 .1 .0) (read v)
-    ∙ ap (numberField (a .op) (v .value .given .0 .0)) (missing (a .line .now) (v .value .given .0 .1 .0) countField (w .starts-with .result) (w .starts-with .ensures) (c .if1 .left))
-    ∙ no-count-field (a .op) (v .value .given .0 .0))
+    (slot-read (a .op) (read v)
+    ∙ ap (numberField (a .op) (value-of v)) (missing (w .starts-with .ensures) (c .if1 .left))
+    ∙ no-count-field (a .op) (value-of v))
 
 returns-3 : tie.Need-returns-3
 returns-3 c =
     let a = c .before .before .before .before .args in
-    sym (no-slot (a .op) (a .line .now) (a .at) (subst (NumberIs (a .line .now) (a .at)) (c .enum-told .given .1) (c .before .before .number-at .ensures)))
+    let unread = subst (NumberIs (a .line .now) (a .at)) (c .enum-told .given .1) (c .before .before .number-at .ensures) in
+    sym (no-slot (a .op) (a .line .now) (a .at) unread)
 
 pub slot-number-spec : {M : Type 1} → statement M
 slot-number-spec =

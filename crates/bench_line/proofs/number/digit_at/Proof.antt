@@ -5,21 +5,17 @@ use borrow.Author.Needs.{needs}
 use Rattle.bench_line.proofs.number.digit_at.Statement.{statement}
 use Rattle.bench_line.proofs.number.digit_at.Tie as tie
 
--- src/number.rt:21:9
 returns : tie.Need-returns
 returns c = sym (past-end (c .before .args .line .now) (c .before .args .at) (c .if1 .taken))
 
--- src/number.rt:23:16
 shared-slice-read-byte : tie.Need-shared-slice-read-byte
 shared-slice-read-byte c = search needs
 
--- src/number.rt:25:9
 returns-2 : tie.Need-returns-2
 returns-2 c =
     let a = c .before .before .before .args in
     sym (below-digits (a .line .now) (a .at) (c .if2 .taken))
 
--- src/number.rt:17:1
 returns-3 : tie.Need-returns-3
 returns-3 c =
     let a = c .before .before .before .args in

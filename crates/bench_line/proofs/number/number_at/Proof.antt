@@ -30,9 +30,6 @@ sub-if2 c = omega arith
 abbrev line-of : tie.Then1 Inv-loop μ-loop → List ℕ
 line-of c = c .before .before .before .before .args .line .now
 
-abbrev at-of : tie.Then1 Inv-loop μ-loop → ℕ
-at-of c = c .before .before .before .before .args .at
-
 abbrev value-of : tie.Then1 Inv-loop μ-loop → ℕ
 value-of c = c .before .before .loop .value
 
@@ -54,12 +51,12 @@ high c = digit-high (line-of c) (next-of c) (digit c)
 small : (c : tie.Else2 Inv-loop μ-loop) → value-of (c .before) < 10000
 small c =
     let t = c .before in
-    four-digits (line-of t) (at-of t) (value-of t) (next-of t) (t .before .before .loop .inv) (c .if2 .left)
+    four-digits (t .before .before .loop .inv) (c .if2 .left)
 
 returns : tie.Need-returns Inv-loop μ-loop
 returns c =
     let t = c .before in
-    six-digits (line-of t) (at-of t) (value-of t) (next-of t) (t .before .before .loop .inv) (digit t) (c .if2 .taken)
+    six-digits (t .before .before .loop .inv) (digit t) (c .if2 .taken)
 
 mul-value : tie.Need-mul-value Inv-loop μ-loop
 mul-value c = omega (arith, small c)
@@ -85,22 +82,18 @@ loop-less c = omega (arith, inside (c .before .before))
 loop-again : tie.Need-loop-again Inv-loop μ-loop
 loop-again c =
     let t = c .before .before in
-    one-more (line-of t) (at-of t) (value-of t) (next-of t) (t .before .before .loop .inv) (digit t) (c .before .if2 .left)
+    one-more (t .before .before .loop .inv) (digit t) (c .before .if2 .left)
 
 end : (c : tie.Else1 Inv-loop μ-loop) → digitAt (c .before .before .before .before .args .line .now) (c .before .before .loop .next) ≡ false
 end c = sym (c .before .digit-at .ensures) ∙ c .if1 .left
 
 returns-2 : tie.Need-returns-2 Inv-loop μ-loop
 returns-2 c =
-    let l = c .before .before .before in
-    let a = l .before .before .args in
-    no-digits (a .line .now) (a .at) (l .loop .value) (l .loop .next) (l .loop .inv) (end (c .before)) (c .if3 .taken)
+    no-digits (c .before .before .before .loop .inv) (end (c .before)) (c .if3 .taken)
 
 returns-3 : tie.Need-returns-3 Inv-loop μ-loop
 returns-3 c =
-    let l = c .before .before .before in
-    let a = l .before .before .args in
-    number-read (a .line .now) (a .at) (l .loop .value) (l .loop .next) (l .loop .inv) (end (c .before)) (c .if3 .left)
+    number-read (c .before .before .before .loop .inv) (end (c .before)) (c .if3 .left)
 
 pub number-at-spec : {M : Type 1} → statement M
 number-at-spec =

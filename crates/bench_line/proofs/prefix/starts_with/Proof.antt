@@ -38,7 +38,7 @@ returns-2 : tie.Need-returns-2 Inv-loop μ-loop
 returns-2 c =
     let l = c .before .before .before .before in
     let a = l .before .before .args in
-    differs (a .line .now) (a .at) (a .word .now) (l .loop .i) (l .loop .inv) (omega arith) (omega arith) (c .if2 .taken)
+    differs (a .line .now) (a .at) (a .word .now) (l .loop .inv) (omega arith) (omega arith) (c .if2 .taken)
 
 add-i : tie.Need-add-i Inv-loop μ-loop
 add-i c = omega arith
@@ -50,13 +50,13 @@ loop-again : tie.Need-loop-again Inv-loop μ-loop
 loop-again c =
     let l = c .before .before .before .before in
     let a = l .before .before .args in
-    one-more (a .line .now) (a .at) (a .word .now) (l .loop .i) (l .loop .inv) (omega arith) (omega arith) (c .if2 .left)
+    one-more (a .line .now) (a .at) (a .word .now) (l .loop .inv) (omega arith) (omega arith) (c .if2 .left)
 
 returns-3 : tie.Need-returns-3 Inv-loop μ-loop
 returns-3 c =
     let l = c .before in
     let a = l .before .before .args in
-    all-matched (a .line .now) (a .at) (a .word .now) (l .loop .i) (l .loop .inv) (c .loop-test .left) (l .before .before .pre) (l .before .if1 .left)
+    all-matched (a .line .now) (a .at) (a .word .now) (l .loop .inv) (c .loop-test .left) (l .before .before .pre) (l .before .if1 .left)
 
 pub starts-with-spec : {M : Type 1} → statement M
 starts-with-spec =

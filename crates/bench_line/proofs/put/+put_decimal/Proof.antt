@@ -13,7 +13,7 @@ use Rattle.bench_line.proofs.put.+put_decimal.{statement}
 use Rattle.bench_line.proofs.put.+put_decimal.Tie.{close}
 
 abbrev μ-put-decimal : Measures 1 put-decimal-kinds.ps ℕ
-μ-put-decimal κs a = a .1 .1 .0
+μ-put-decimal κs a = let numbers = a .1 in numbers .1 .0
 
 abbrev put-decimal-at : ℕ → In 1 put-decimal-kinds.ps
 put-decimal-at t =
@@ -23,117 +23,78 @@ abbrev put-decimal-below : ℕ → In 1 put-decimal-kinds.ps
 put-decimal-below t =
     and 1 put-decimal-kinds.ps (falls 1 put-decimal-kinds.ps _<_ μ-put-decimal t) put-decimal.Pre
 
-put-decimal-cast-out : (t : ℕ) → put-decimal-lts.Need-cast-out (
-  put-decimal-below t,
-  put-decimal.Post,
-) (put-decimal-at t) put-decimal.Post
+-- what is known of its call of itself
+abbrev claims : ℕ → put-decimal-lts.Claims
+claims t = (put-decimal-below t, put-decimal.Post)
+
+put-decimal-cast-out : (t : ℕ) → put-decimal-lts.Need-cast-out (claims t) (put-decimal-at t) put-decimal.Post
 put-decimal-cast-out t c = omega arith
 
-put-decimal-add-out : (t : ℕ) → put-decimal-lts.Need-add-out (
-  put-decimal-below t,
-  put-decimal.Post,
-) (put-decimal-at t) put-decimal.Post
+put-decimal-add-out : (t : ℕ) → put-decimal-lts.Need-add-out (claims t) (put-decimal-at t) put-decimal.Post
 put-decimal-add-out t c = omega arith
 
-put-decimal-slice-write-out : (t : ℕ) → put-decimal-lts.Need-slice-write-out (
-  put-decimal-below t,
-  put-decimal.Post,
-) (put-decimal-at t) put-decimal.Post
+put-decimal-slice-write-out : (t : ℕ) → put-decimal-lts.Need-slice-write-out (claims t) (put-decimal-at t) put-decimal.Post
 put-decimal-slice-write-out t c = omega (arith, digit-length (c .before .before .args .n) (c .if1 .taken))
 
-put-decimal-add-result : (t : ℕ) → put-decimal-lts.Need-add-result (
-  put-decimal-below t,
-  put-decimal.Post,
-) (put-decimal-at t) put-decimal.Post
+put-decimal-add-result : (t : ℕ) → put-decimal-lts.Need-add-result (claims t) (put-decimal-at t) put-decimal.Post
 put-decimal-add-result t c = omega (arith, digit-length (c .before .before .args .n) (c .if1 .taken))
 
-put-decimal-same-length : (t : ℕ) → put-decimal-lts.Need-same-length (
-  put-decimal-below t,
-  put-decimal.Post,
-) (put-decimal-at t) put-decimal.Post
+put-decimal-same-length : (t : ℕ) → put-decimal-lts.Need-same-length (claims t) (put-decimal-at t) put-decimal.Post
 put-decimal-same-length t c = simp length-set
 
-put-decimal-returns : (t : ℕ) → put-decimal-lts.Need-returns (
-  put-decimal-below t,
-  put-decimal.Post,
-) (put-decimal-at t) put-decimal.Post
+put-decimal-returns : (t : ℕ) → put-decimal-lts.Need-returns (claims t) (put-decimal-at t) put-decimal.Post
 put-decimal-returns t c =
     let a = c .before .before .args in
     put-digit (a .out .now) (a .at) (a .n) (c .if1 .taken) (omega (arith, digit-length (a .n) (c .if1 .taken)))
 
-put-decimal-put-decimal-requires : (t : ℕ) → put-decimal-lts.Need-put-decimal-requires (
-  put-decimal-below t,
-  put-decimal.Post,
-) (put-decimal-at t) put-decimal.Post
+put-decimal-put-decimal-requires : (t : ℕ) → put-decimal-lts.Need-put-decimal-requires (claims t) (put-decimal-at t) put-decimal.Post
 put-decimal-put-decimal-requires t c κs =
     let s = c .before .before .before in
     (omega arith, omega (arith, digits-length (s .args .n) (c .before .if1 .left) (s .fits .n .fits)))
 
-put-decimal-cast-out-2 : (t : ℕ) → put-decimal-lts.Need-cast-out-2 (
-  put-decimal-below t,
-  put-decimal.Post,
-) (put-decimal-at t) put-decimal.Post
+put-decimal-cast-out-2 : (t : ℕ) → put-decimal-lts.Need-cast-out-2 (claims t) (put-decimal-at t) put-decimal.Post
 put-decimal-cast-out-2 t c = omega arith
 
-put-decimal-add-out-2 : (t : ℕ) → put-decimal-lts.Need-add-out-2 (
-  put-decimal-below t,
-  put-decimal.Post,
-) (put-decimal-at t) put-decimal.Post
+put-decimal-add-out-2 : (t : ℕ) → put-decimal-lts.Need-add-out-2 (claims t) (put-decimal-at t) put-decimal.Post
 put-decimal-add-out-2 t c = omega arith
 
 -- after the call: there is room for the last digit
-length-kept : (t : ℕ) (c : put-decimal-lts.After-put-decimal (put-decimal-below t, put-decimal.Post) (put-decimal-at t) put-decimal.Post) → length (c .put-decimal .last .0) ≡ length (c .before .before .before .before .args .out .now)
+abbrev Called : ℕ → Type 0
+Called t = put-decimal-lts.After-put-decimal (claims t) (put-decimal-at t) put-decimal.Post
+
+length-kept : (t : ℕ) (c : Called t) → length (c .put-decimal .last .0) ≡ length (c .before .before .before .before .args .out .now)
 length-kept t c = c .put-decimal .kept .0
 
-room : (t : ℕ) (c : put-decimal-lts.After-put-decimal (put-decimal-below t, put-decimal.Post) (put-decimal-at t) put-decimal.Post) → c .put-decimal .result < length (c .put-decimal .last .0)
+room : (t : ℕ) (c : Called t) → c .put-decimal .result < length (c .put-decimal .last .0)
 room t c =
     let s = c .before .before .before .before in
-    omega (arith, s .pre .1, c .put-decimal .ensures .nextIs, length-kept t c, digits-length (s .args .n) (c .before .before .if1 .left) (s .fits .n .fits))
+    omega (
+      arith,
+      s .pre .1,
+      c .put-decimal .ensures .nextIs,
+      length-kept t c,
+      digits-length (s .args .n) (c .before .before .if1 .left) (s .fits .n .fits),
+    )
 
-put-decimal-slice-write-out-2 : (t : ℕ) → put-decimal-lts.Need-slice-write-out-2 (
-  put-decimal-below t,
-  put-decimal.Post,
-) (put-decimal-at t) put-decimal.Post
+put-decimal-slice-write-out-2 : (t : ℕ) → put-decimal-lts.Need-slice-write-out-2 (claims t) (put-decimal-at t) put-decimal.Post
 put-decimal-slice-write-out-2 t c = room t (c .before .before)
 
-put-decimal-add-result-2 : (t : ℕ) → put-decimal-lts.Need-add-result-2 (
-  put-decimal-below t,
-  put-decimal.Post,
-) (put-decimal-at t) put-decimal.Post
+put-decimal-add-result-2 : (t : ℕ) → put-decimal-lts.Need-add-result-2 (claims t) (put-decimal-at t) put-decimal.Post
 put-decimal-add-result-2 t c =
     let p = c .before .before in
     omega (arith, room t p, length-kept t p, p .before .before .before .before .good .0 .0)
 
-put-decimal-same-length-2 : (t : ℕ) → put-decimal-lts.Need-same-length-2 (
-  put-decimal-below t,
-  put-decimal.Post,
-) (put-decimal-at t) put-decimal.Post
+put-decimal-same-length-2 : (t : ℕ) → put-decimal-lts.Need-same-length-2 (claims t) (put-decimal-at t) put-decimal.Post
 put-decimal-same-length-2 t c = simp length-set (length-kept t (c .before .before))
 
-put-decimal-returns-2 : (t : ℕ) → put-decimal-lts.Need-returns-2 (
-  put-decimal-below t,
-  put-decimal.Post,
-) (put-decimal-at t) put-decimal.Post
+put-decimal-returns-2 : (t : ℕ) → put-decimal-lts.Need-returns-2 (claims t) (put-decimal-at t) put-decimal.Post
 put-decimal-returns-2 t c =
     let p = c .before .before in
     let s = p .before .before .before .before in
-    put-digits
-    (s .args .out .now)
-    (p .put-decimal .last .0)
-    (s .args .at)
-    (p .put-decimal .result)
-    (s .args .n)
-    (p .before .before .if1 .left)
-    (s .fits .n .fits)
-    (omega (arith, s .pre .1))
-    (room t p)
-    (p .put-decimal .ensures)
+    put-digits (s .args .n) (p .before .before .if1 .left) (s .fits .n .fits) (omega (arith, s .pre .1)) (room t p) (p .put-decimal .ensures)
 
 pub +put-decimal-spec : {M : Type 1} → statement M
-+put-decimal-spec = close μ-put-decimal λ t. put-decimal-lts.spec (
-  put-decimal-below t,
-  put-decimal.Post,
-)
++put-decimal-spec = close μ-put-decimal λ t. put-decimal-lts.spec (claims t)
     (put-decimal-at t)
     put-decimal.Post
     (put-decimal-cast-out t)

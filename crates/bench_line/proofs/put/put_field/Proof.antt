@@ -1,7 +1,6 @@
 -- The digits are put behind the name.
 use native.Mathlib.Omega.{arith}
 use borrow.Author.Needs.{needs}
-use Rattle.model.specs.Line.{decimal}
 use Rattle.bench_line.proofs.Laws.Put.{put-then}
 use Rattle.bench_line.proofs.Laws.Decimal.{decimal-length}
 use Rattle.bench_line.proofs.put.put_field.Statement.{statement}
@@ -24,18 +23,7 @@ returns c =
     let d = c .before .before in
     let p = d .before .before .before .before in
     let s = p .before .before .before .before in
-    put-then
-    (s .args .out .now)
-    (p .put-bytes .last .0)
-    (d .put-decimal .last .0)
-    (s .args .at)
-    (p .put-bytes .result)
-    (d .put-decimal .result)
-    (s .args .name .now)
-    (decimal (s .args .n))
-    (omega (arith, s .pre))
-    (p .put-bytes .ensures)
-    (d .put-decimal .ensures)
+    put-then (omega (arith, s .pre)) (p .put-bytes .ensures) (d .put-decimal .ensures)
 
 pub put-field-spec : {M : Type 1} → statement M
 put-field-spec = tie.close (tie.spec put-bytes-requires put-decimal-requires same-length returns)

@@ -3,6 +3,7 @@
 use Prim.Native.Nat.{_≤_, _-_}
 use mathlib.Core.Path.{refl}
 use borrow.Author.Needs.{needs}
+use Rattle.bitmap.specs.Sizes.{bitmapWords}
 use Rattle.bitmap.proofs.Laws.Majority.{majorityWord}
 use Rattle.bitops.specs.Combine.{zip3}
 use Rattle.bitops.proofs.Laws.Overwrite.{Overwritten}
@@ -11,10 +12,10 @@ use Rattle.bitops.proofs.combine.majority.Statement.{statement}
 use Rattle.bitops.proofs.combine.majority.Tie as tie
 
 abbrev Inv-loop : tie.InvT-loop
-Inv-loop out₀ sam «com» tam k₀ out k = (k ≤ 128) × Overwritten k (zip3 majorityWord sam «com» tam) out₀ out
+Inv-loop out₀ sam «com» tam k₀ out k = (k ≤ bitmapWords) × Overwritten k (zip3 majorityWord sam «com» tam) out₀ out
 
 abbrev μ-loop : tie.MeasureT-loop
-μ-loop out₀ sam «com» tam k₀ out k = 128 - k
+μ-loop out₀ sam «com» tam k₀ out k = bitmapWords - k
 
 loop-holds : tie.Need-loop-holds Inv-loop μ-loop
 loop-holds c = (search needs, refl)
@@ -56,20 +57,22 @@ loop-again : tie.Need-loop-again Inv-loop μ-loop
 loop-again c =
     let at-turn = c .before .before .before .before in
     let at-loop = at-turn .before in
-    let at-start = at-loop .before in (
+    let a = at-loop .before .args in
+    let p = at-loop .before .pre in
+    let maps = p .1 in (
       search needs,
-      zip3-step majorityWord (at-start .args .sam .now) (at-start .args .«com» .now) (at-start .args .tam .now) (at-start .args .out .now)
-          (at-loop .loop .out) (at-loop .loop .k) (at-start .pre .1 .0 .size) (at-start .pre .1 .1 .0 .size) (at-start .pre .1 .1 .1 .size) (at-start .pre .0)
-          (at-loop .loop .inv .1) (c .majority-word .result) (at-turn .loop-test .taken) (c .majority-word .ensures),
+      zip3-step majorityWord (a .sam .now) (a .«com» .now) (a .tam .now) (maps .0 .size) (maps .1 .0 .size) (maps .1 .1 .size)
+          (a .out .now) (at-loop .loop .k) (p .0) (at-loop .loop .inv .1) (at-turn .loop-test .taken) (c .majority-word .ensures),
     )
 
 returns : tie.Need-returns Inv-loop μ-loop
 returns c =
     let at-loop = c .before in
-    let at-start = at-loop .before in
-    zip3-all majorityWord (at-start .args .sam .now) (at-start .args .«com» .now) (at-start .args .tam .now) (at-start .args .out .now)
-    (at-loop .loop .out) (at-loop .loop .k) (at-start .pre .1 .0 .size) (at-start .pre .1 .1 .0 .size) (at-start .pre .1 .1 .1 .size) (at-start .pre .0)
-    (at-loop .loop .inv .1) (c .loop-test .left)
+    let a = at-loop .before .args in
+    let p = at-loop .before .pre in
+    let maps = p .1 in
+    zip3-all majorityWord (a .sam .now) (a .«com» .now) (a .tam .now) (maps .0 .size) (maps .1 .0 .size) (maps .1 .1 .size)
+    (a .out .now) (at-loop .loop .k) (p .0) (at-loop .loop .inv .1) (c .loop-test .left)
 
 pub majority-spec : {M : Type 1} → statement M
 majority-spec =

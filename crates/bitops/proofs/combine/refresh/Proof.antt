@@ -4,6 +4,7 @@ use Prim.Native.Nat.{ℕ, _≤_, _-_}
 use mathlib.Core.Path.{refl, ap, _∙_}
 use lib.ListN.{getD}
 use borrow.Author.Needs.{needs}
+use Rattle.bitmap.specs.Sizes.{bitmapWords}
 use Rattle.bitops.specs.Combine.{refreshWord, zip3}
 use Rattle.bitops.proofs.Laws.Overwrite.{Overwritten}
 use Rattle.bitops.proofs.Laws.Combine.{zip3-at, zip3-step, zip3-all}
@@ -11,10 +12,10 @@ use Rattle.bitops.proofs.combine.refresh.Statement.{statement}
 use Rattle.bitops.proofs.combine.refresh.Tie as tie
 
 abbrev Inv-loop : tie.InvT-loop
-Inv-loop tam₀ old new k₀ tam k = (k ≤ 128) × Overwritten k (zip3 refreshWord old new tam₀) tam₀ tam
+Inv-loop tam₀ old new k₀ tam k = (k ≤ bitmapWords) × Overwritten k (zip3 refreshWord old new tam₀) tam₀ tam
 
 abbrev μ-loop : tie.MeasureT-loop
-μ-loop tam₀ old new k₀ tam k = 128 - k
+μ-loop tam₀ old new k₀ tam k = bitmapWords - k
 
 loop-holds : tie.Need-loop-holds Inv-loop μ-loop
 loop-holds c = (search needs, refl)
@@ -60,11 +61,11 @@ loop-again c =
     let p = at-loop .before .pre in
     let so = at-loop .loop .inv .1 in
     let k = at-loop .loop .k in
-    let is = zip3-at refreshWord (a .old .now) (a .new .now) (a .tam .now) (a .tam .now) (at-loop .loop .tam) k (p .1 .0 .size) (p .1 .1 .size)
-    (p .0 .size) (p .0 .size) so (at-turn .loop-test .taken) in (
+    let is = zip3-at refreshWord (a .old .now) (a .new .now) (a .tam .now) (p .1 .0 .size) (p .1 .1 .size) (p .0 .size)
+    (a .tam .now) k (p .0 .size) so (at-turn .loop-test .taken) in (
       search needs,
-      zip3-step refreshWord (a .old .now) (a .new .now) (a .tam .now) (a .tam .now) (at-loop .loop .tam) k (p .1 .0 .size) (p .1 .1 .size)
-          (p .0 .size) (p .0 .size) so (c .refresh-word .result) (at-turn .loop-test .taken)
+      zip3-step refreshWord (a .old .now) (a .new .now) (a .tam .now) (p .1 .0 .size) (p .1 .1 .size) (p .0 .size)
+          (a .tam .now) k (p .0 .size) so (at-turn .loop-test .taken)
           (c .refresh-word .ensures ∙ ap (λ (x : ℕ). refreshWord (getD (a .old .now) k 0) (getD (a .new .now) k 0) x) is),
     )
 
@@ -73,8 +74,8 @@ returns c =
     let at-loop = c .before in
     let a = at-loop .before .args in
     let p = at-loop .before .pre in
-    zip3-all refreshWord (a .old .now) (a .new .now) (a .tam .now) (a .tam .now) (at-loop .loop .tam) (at-loop .loop .k) (p .1 .0 .size)
-    (p .1 .1 .size) (p .0 .size) (p .0 .size) (at-loop .loop .inv .1) (c .loop-test .left)
+    zip3-all refreshWord (a .old .now) (a .new .now) (a .tam .now) (p .1 .0 .size) (p .1 .1 .size) (p .0 .size)
+    (a .tam .now) (at-loop .loop .k) (p .0 .size) (at-loop .loop .inv .1) (c .loop-test .left)
 
 pub refresh-spec : {M : Type 1} → statement M
 refresh-spec =

@@ -4,6 +4,7 @@ use Prim.Native.Nat.{ℕ, _≤_, _-_}
 use mathlib.Core.Path.{refl, ap, _∙_}
 use lib.ListN.{getD}
 use borrow.Author.Needs.{needs}
+use Rattle.bitmap.specs.Sizes.{bitmapWords}
 use Rattle.bitops.specs.Combine.{rollbackWord, zip3}
 use Rattle.bitops.proofs.Laws.Overwrite.{Overwritten}
 use Rattle.bitops.proofs.Laws.Combine.{zip3-at, zip3-step, zip3-all}
@@ -11,10 +12,10 @@ use Rattle.bitops.proofs.combine.rollback.Statement.{statement}
 use Rattle.bitops.proofs.combine.rollback.Tie as tie
 
 abbrev Inv-loop : tie.InvT-loop
-Inv-loop com₀ sam tam k₀ «com» k = (k ≤ 128) × Overwritten k (zip3 rollbackWord com₀ sam tam) com₀ «com»
+Inv-loop com₀ sam tam k₀ «com» k = (k ≤ bitmapWords) × Overwritten k (zip3 rollbackWord com₀ sam tam) com₀ «com»
 
 abbrev μ-loop : tie.MeasureT-loop
-μ-loop com₀ sam tam k₀ «com» k = 128 - k
+μ-loop com₀ sam tam k₀ «com» k = bitmapWords - k
 
 loop-holds : tie.Need-loop-holds Inv-loop μ-loop
 loop-holds c = (search needs, refl)
@@ -61,11 +62,11 @@ loop-again c =
     let p = at-loop .before .pre in
     let so = at-loop .loop .inv .1 in
     let k = at-loop .loop .k in
-    let is = zip3-at rollbackWord (a .«com» .now) (a .sam .now) (a .tam .now) (a .«com» .now) (at-loop .loop .«com») k (p .0 .size) (p .1 .0 .size)
-    (p .1 .1 .size) (p .0 .size) so (at-turn .loop-test .taken) in (
+    let is = zip3-at rollbackWord (a .«com» .now) (a .sam .now) (a .tam .now) (p .0 .size) (p .1 .0 .size) (p .1 .1 .size)
+    (a .«com» .now) k (p .0 .size) so (at-turn .loop-test .taken) in (
       search needs,
-      zip3-step rollbackWord (a .«com» .now) (a .sam .now) (a .tam .now) (a .«com» .now) (at-loop .loop .«com») k (p .0 .size) (p .1 .0 .size)
-          (p .1 .1 .size) (p .0 .size) so (c .majority-word .result) (at-turn .loop-test .taken)
+      zip3-step rollbackWord (a .«com» .now) (a .sam .now) (a .tam .now) (p .0 .size) (p .1 .0 .size) (p .1 .1 .size)
+          (a .«com» .now) k (p .0 .size) so (at-turn .loop-test .taken)
           (c .majority-word .ensures ∙ ap (λ (x : ℕ). rollbackWord x (getD (a .sam .now) k 0) (getD (a .tam .now) k 0)) is),
     )
 
@@ -74,8 +75,8 @@ returns c =
     let at-loop = c .before in
     let a = at-loop .before .args in
     let p = at-loop .before .pre in
-    zip3-all rollbackWord (a .«com» .now) (a .sam .now) (a .tam .now) (a .«com» .now) (at-loop .loop .«com») (at-loop .loop .k) (p .0 .size)
-    (p .1 .0 .size) (p .1 .1 .size) (p .0 .size) (at-loop .loop .inv .1) (c .loop-test .left)
+    zip3-all rollbackWord (a .«com» .now) (a .sam .now) (a .tam .now) (p .0 .size) (p .1 .0 .size) (p .1 .1 .size)
+    (a .«com» .now) (at-loop .loop .k) (p .0 .size) (at-loop .loop .inv .1) (c .loop-test .left)
 
 pub rollback-spec : {M : Type 1} → statement M
 rollback-spec =

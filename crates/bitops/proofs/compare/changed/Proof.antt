@@ -1,20 +1,24 @@
 -- `bitops::compare::changed` meets its contract. The loop's invariant: the changed words are those counted so far and those from k on.
 use Prim.Native.Nat.{_+_, _≤_, _-_}
 use native.Mathlib.Omega.{arith}
-use mathlib.Core.Path.{_≡_, refl, sym, _∙_}
+use mathlib.Core.Path.{_≡_}
 use lib.ListN.{length, drop, getD}
 use lib.Dec.{eqb}
 use borrow.Author.Needs.{needs}
+use Rattle.bitmap.specs.Sizes.{bitmapWords}
 use Rattle.model.specs.Stores.{changesFrom}
 use Rattle.bitops.proofs.Laws.Compare.{changes-step, changes-end, one-at-most}
 use Rattle.bitops.proofs.compare.changed.Statement.{statement}
 use Rattle.bitops.proofs.compare.changed.Tie as tie
 
 abbrev Inv-loop : tie.InvT-loop
-Inv-loop old new count₀ k₀ count k = (k ≤ 128) × (count ≤ k) × (count + length (changesFrom k (drop k old) (drop k new)) ≡ length (changesFrom 0 old new))
+Inv-loop old new count₀ k₀ count k =
+    (k ≤ bitmapWords)
+    × (count ≤ k)
+    × (count + length (changesFrom k (drop k old) (drop k new)) ≡ length (changesFrom 0 old new))
 
 abbrev μ-loop : tie.MeasureT-loop
-μ-loop old new count₀ k₀ count k = 128 - k
+μ-loop old new count₀ k₀ count k = bitmapWords - k
 
 loop-holds : tie.Need-loop-holds Inv-loop μ-loop
 loop-holds c = (search needs, search needs, omega arith)
@@ -35,7 +39,11 @@ differs-requires : tie.Need-differs-requires Inv-loop μ-loop
 differs-requires c κs = search needs
 
 add-count : tie.Need-add-count Inv-loop μ-loop
-add-count c = omega (arith, c .differs .ensures, one-at-most (eqb (getD (c .before .before .before .before .before .args .old .now) (c .before .before .before .before .loop .k) 0) (getD (c .before .before .before .before .before .args .new .now) (c .before .before .before .before .loop .k) 0)))
+add-count c =
+    let at-loop = c .before .before .before .before in
+    let a = at-loop .before .args in
+    let k = at-loop .loop .k in
+    omega (arith, c .differs .ensures, one-at-most (eqb (getD (a .old .now) k 0) (getD (a .new .now) k 0)))
 
 add-k : tie.Need-add-k Inv-loop μ-loop
 add-k c = search needs

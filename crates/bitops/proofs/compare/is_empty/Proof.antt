@@ -1,6 +1,6 @@
 -- `bitops::compare::is_empty` meets its contract: words that are 0 are the empty bitmap's.
 use Prim.Native.Nat.{ℕ}
-use mathlib.Core.Path.{_≡_, ap, _∙_}
+use mathlib.Core.Path.{ap, _∙_}
 use lib.ListN.{replicate}
 use Rattle.model.specs.Valid.{sameWords}
 use Rattle.bitops.proofs.Laws.Compare.{zero-same}

@@ -7,16 +7,17 @@ use mathlib.Core.Bool.{_&&_}
 use lib.ListN.{drop}
 use lib.Dec.{eqb}
 use borrow.Author.Needs.{needs}
+use Rattle.bitmap.specs.Sizes.{bitmapWords}
 use Rattle.model.specs.Valid.{sameWords}
 use Rattle.bitops.proofs.Laws.Compare.{same-step, same-end}
 use Rattle.bitops.proofs.compare.same.Statement.{statement}
 use Rattle.bitops.proofs.compare.same.Tie as tie
 
 abbrev Inv-loop : tie.InvT-loop
-Inv-loop a b differences₀ k₀ differences k = (k ≤ 128) × (sameWords a b ≡ (eqb differences 0 && sameWords (drop k a) (drop k b)))
+Inv-loop a b differences₀ k₀ differences k = (k ≤ bitmapWords) × (sameWords a b ≡ (eqb differences 0 && sameWords (drop k a) (drop k b)))
 
 abbrev μ-loop : tie.MeasureT-loop
-μ-loop a b differences₀ k₀ differences k = 128 - k
+μ-loop a b differences₀ k₀ differences k = bitmapWords - k
 
 loop-holds : tie.Need-loop-holds Inv-loop μ-loop
 loop-holds c = (search needs, refl)
@@ -43,16 +44,17 @@ loop-again : tie.Need-loop-again Inv-loop μ-loop
 loop-again c =
     let at-turn = c .before .before in
     let at-loop = at-turn .before in
-    let at-start = at-loop .before in (
+    let a = at-loop .before .args in (
       search needs,
-      at-loop .loop .inv .1 ∙ same-step (at-start .args .a .now) (at-start .args .b .now) (at-loop .loop .k) (at-loop .loop .differences) (omega arith) (omega arith),
+      at-loop .loop .inv .1
+          ∙ same-step (a .a .now) (a .b .now) (at-loop .loop .k) (at-loop .loop .differences) (omega arith) (omega arith),
     )
 
 returns : tie.Need-returns Inv-loop μ-loop
 returns c =
     let at-loop = c .before in
-    let at-start = at-loop .before in
-    sym (at-loop .loop .inv .1 ∙ same-end (at-start .args .a .now) (at-start .args .b .now) (at-loop .loop .k) (at-loop .loop .differences) (omega arith) (omega arith))
+    let a = at-loop .before .args in
+    sym (at-loop .loop .inv .1 ∙ same-end (a .a .now) (a .b .now) (at-loop .loop .k) (at-loop .loop .differences) (omega arith) (omega arith))
 
 pub same-spec : {M : Type 1} → statement M
 same-spec =

@@ -7,16 +7,17 @@ use mathlib.Core.Bool.{_&&_}
 use lib.ListN.{drop}
 use lib.Dec.{eqb}
 use borrow.Author.Needs.{needs}
+use Rattle.bitmap.specs.Sizes.{bitmapWords}
 use Rattle.bitmap.specs.Bits.{noBitsFrom}
 use Rattle.bitops.proofs.Laws.Compare.{zero-step, zero-end}
 use Rattle.bitops.proofs.compare.zero_from.Statement.{statement}
 use Rattle.bitops.proofs.compare.zero_from.Tie as tie
 
 abbrev Inv-loop : tie.InvT-loop
-Inv-loop words place bits₀ k₀ bits k = (k ≤ 128) × (noBitsFrom 0 (drop place words) ≡ (eqb bits 0 && noBitsFrom 0 (drop k words)))
+Inv-loop words place bits₀ k₀ bits k = (k ≤ bitmapWords) × (noBitsFrom 0 (drop place words) ≡ (eqb bits 0 && noBitsFrom 0 (drop k words)))
 
 abbrev μ-loop : tie.MeasureT-loop
-μ-loop words place bits₀ k₀ bits k = 128 - k
+μ-loop words place bits₀ k₀ bits k = bitmapWords - k
 
 loop-holds : tie.Need-loop-holds Inv-loop μ-loop
 loop-holds c = (search needs, refl)

@@ -5,6 +5,7 @@ use native.Mathlib.Omega.{arith}
 use denote.Ref.{now}
 use lib.ListN.{drop}
 use borrow.Author.Tests.{not-true, not-false}
+use Rattle.bitmap.specs.Sizes.{bitmapWords}
 use Rattle.model.specs.Disk.{diskBlocks, logLength, logEntries, entriesValid, logValid}
 use Rattle.disk_log.proofs.Laws.Log.{log-too-long, log-entries, follows-below, entries-stop, entries-go, entries-end}
 use Rattle.disk_log.proofs.log.log_valid.Statement.{statement}
@@ -13,10 +14,8 @@ use Rattle.disk_log.proofs.log.log_valid.Tie as tie
 abbrev Inv-loop : tie.InvT-loop
 Inv-loop disk blocks entries count low₀ i₀ low i =
     (i ≤ logLength disk)
-    ×
-    (logLength disk ≤ 128)
-    ×
-    (logValid disk ≡ entriesValid (diskBlocks disk) low (drop i (logEntries disk)))
+    × (logLength disk ≤ bitmapWords)
+    × (logValid disk ≡ entriesValid (diskBlocks disk) low (drop i (logEntries disk)))
 
 abbrev μ-loop : tie.MeasureT-loop
 μ-loop disk blocks entries count low₀ i₀ low i = logLength disk - i
@@ -41,7 +40,8 @@ cast-count c = omega arith
 loop-holds : tie.Need-loop-holds Inv-loop μ-loop
 loop-holds c =
     let start = c .before .before .before .before .before in
-    (omega arith, omega (arith, c .before .words-for .ensures), log-entries (now (start .args .disk)) (omega (arith, c .before .words-for .ensures)))
+    let few = c .before .words-for .ensures in
+    (omega arith, omega (arith, few), log-entries (now (start .args .disk)) (omega (arith, few)))
 
 number-requires : tie.Need-number-requires Inv-loop μ-loop
 number-requires c κs = omega arith
@@ -54,26 +54,13 @@ entry-valid-requires c κs = omega arith
 
 returns-2 : tie.Need-returns-2 Inv-loop μ-loop
 returns-2 c =
-    let number = c .before .before .before .number in
-    let contents = c .before .before .contents in
     let start = c .before .before .before .before .before .before .before .before .before .before .before in
     let at = c .before .before .before .before .before .loop in
     sym
     (at .inv .2
-    ∙ entries-stop
-    (now (start .args .disk))
-    (start .pre .0)
-    (at .inv .1)
-    (at .low)
-    (at .i)
-    (number .result)
-    (contents .result)
-    (c .before .entry-valid .result)
-    (c .before .before .before .before .loop-test .taken)
-    (number .ensures)
-    (contents .ensures)
-    (c .before .entry-valid .ensures)
-    (not-true _ (c .if2 .taken)))
+    ∙ entries-stop (now (start .args .disk)) (start .pre .0) (at .inv .1) (at .low) (at .i)
+    (c .before .before .before .before .loop-test .taken) (c .before .before .before .number .ensures)
+    (c .before .before .contents .ensures) (c .before .entry-valid .ensures) (not-true _ (c .if2 .taken)))
 
 add-low : tie.Need-add-low Inv-loop μ-loop
 add-low c =
@@ -81,14 +68,8 @@ add-low c =
     let at = c .before .before .before .before .before .loop in
     omega (
       arith,
-      follows-below
-          (diskBlocks (now (start .args .disk)))
-          (at .low)
-          (c .before .before .before .number .result)
-          (c .before .before .contents .result)
-          (c .before .entry-valid .result)
-          (c .before .entry-valid .ensures)
-          (not-false _ (c .if2 .left)),
+      follows-below (diskBlocks (now (start .args .disk))) (at .low) (c .before .before .before .number .result)
+          (c .before .before .contents .result) (c .before .entry-valid .ensures) (not-false _ (c .if2 .left)),
     )
 
 add-i : tie.Need-add-i Inv-loop μ-loop
@@ -99,27 +80,14 @@ loop-less c = omega arith
 
 loop-again : tie.Need-loop-again Inv-loop μ-loop
 loop-again c =
-    let number = c .before .before .before .number in
-    let contents = c .before .before .contents in
     let start = c .before .before .before .before .before .before .before .before .before .before .before in
     let at = c .before .before .before .before .before .loop in (
       omega arith,
       at .inv .1,
       at .inv .2
-          ∙ entries-go
-          (now (start .args .disk))
-          (start .pre .0)
-          (at .inv .1)
-          (at .low)
-          (at .i)
-          (number .result)
-          (contents .result)
-          (c .before .entry-valid .result)
-          (c .before .before .before .before .loop-test .taken)
-          (number .ensures)
-          (contents .ensures)
-          (c .before .entry-valid .ensures)
-          (not-false _ (c .if2 .left)),
+          ∙ entries-go (now (start .args .disk)) (start .pre .0) (at .inv .1) (at .low) (at .i)
+          (c .before .before .before .before .loop-test .taken) (c .before .before .before .number .ensures)
+          (c .before .before .contents .ensures) (c .before .entry-valid .ensures) (not-false _ (c .if2 .left)),
     )
 
 returns-3 : tie.Need-returns-3 Inv-loop μ-loop

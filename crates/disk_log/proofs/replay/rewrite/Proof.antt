@@ -1,5 +1,5 @@
 -- The invariant: the entries from `i` on, written over the words as they are, make what all of them make of the first.
-use Prim.Native.Nat.{_-_, _≤_}
+use Prim.Native.Nat.{_-_, _≤_, _<_}
 use mathlib.Core.Path.{_≡_, refl, sym, _∙_}
 use native.Mathlib.Omega.{arith}
 use denote.Ref.{now}
@@ -14,13 +14,29 @@ use Rattle.disk_log.proofs.replay.rewrite.Tie as tie
 abbrev Inv-loop : tie.InvT-loop
 Inv-loop words₀ disk from count i₀ words i =
     (i ≤ logLength disk)
-    ×
-    (length words ≡ bitmapWords)
-    ×
-    (writes (drop i (logEntries disk)) words ≡ writes (drop from (logEntries disk)) words₀)
+    × (length words ≡ bitmapWords)
+    × (writes (drop i (logEntries disk)) words ≡ writes (drop from (logEntries disk)) words₀)
 
 abbrev μ-loop : tie.MeasureT-loop
 μ-loop words₀ disk from count i₀ words i = logLength disk - i
+
+-- the log has few entries
+few : (start : tie.Start Inv-loop μ-loop) → logLength (now (start .args .disk)) ≤ bitmapWords
+few start =
+    let log = start .pre .1 .1 in
+    entries-few (now (start .args .disk)) (log .0) (log .1 .0)
+
+-- the entry that is read is for a word of the bitmap
+within : (c : tie.After-contents Inv-loop μ-loop) → c .before .number .result < bitmapWords
+within c =
+    let start = c .before .before .before .before .before .before in
+    let log = start .pre .1 .1 in
+    omega (
+      arith,
+      c .before .number .ensures,
+      place-below (now (start .args .disk)) (c .before .before .before .loop .i) (start .pre .1 .0) (log .0) (log .1 .0)
+          (c .before .before .loop-test .taken),
+    )
 
 shared-slice-read-count : tie.Need-shared-slice-read-count Inv-loop μ-loop
 shared-slice-read-count c = omega arith
@@ -34,52 +50,22 @@ loop-holds c =
     (omega arith, start .pre .0, refl)
 
 number-requires : tie.Need-number-requires Inv-loop μ-loop
-number-requires c κs =
-    let start = c .before .before .before .before in
-    omega (arith, entries-few (now (start .args .disk)) (start .pre .1 .1 .0) (start .pre .1 .1 .1 .0))
+number-requires c κs = omega (arith, few (c .before .before .before .before))
 
 cast-place : tie.Need-cast-place Inv-loop μ-loop
 cast-place c = omega arith
 
 contents-requires : tie.Need-contents-requires Inv-loop μ-loop
-contents-requires c κs =
-    let start = c .before .before .before .before .before in
-    omega (arith, entries-few (now (start .args .disk)) (start .pre .1 .1 .0) (start .pre .1 .1 .1 .0))
+contents-requires c κs = omega (arith, few (c .before .before .before .before .before))
 
 mul-words : tie.Need-mul-words Inv-loop μ-loop
-mul-words c =
-    let start = c .before .before .before .before .before .before in
-    omega (
-      arith,
-      c .before .number .ensures,
-      place-below
-          (now (start .args .disk))
-          (c .before .before .before .loop .i)
-          (start .pre .1 .0)
-          (start .pre .1 .1 .0)
-          (start .pre .1 .1 .1 .0)
-          (c .before .before .loop-test .taken),
-    )
+mul-words c = omega (arith, within c)
 
 element-write-words : tie.Need-element-write-words Inv-loop μ-loop
-element-write-words c =
-    let start = c .before .before .before .before .before .before in
-    omega (
-      arith,
-      c .before .number .ensures,
-      place-below
-          (now (start .args .disk))
-          (c .before .before .before .loop .i)
-          (start .pre .1 .0)
-          (start .pre .1 .1 .0)
-          (start .pre .1 .1 .1 .0)
-          (c .before .before .loop-test .taken),
-    )
+element-write-words c = omega (arith, within c)
 
 add-i : tie.Need-add-i Inv-loop μ-loop
-add-i c =
-    let start = c .before .before .before .before .before .before in
-    omega (arith, entries-few (now (start .args .disk)) (start .pre .1 .1 .0) (start .pre .1 .1 .1 .0))
+add-i c = omega (arith, few (c .before .before .before .before .before .before))
 
 loop-less : tie.Need-loop-less Inv-loop μ-loop
 loop-less c = omega arith
@@ -90,32 +76,17 @@ loop-again c =
     let at = c .before .before .before .loop in (
       omega arith,
       simp length-set (at .inv .1),
-      rewrite-more
-          (now (start .args .disk))
-          (at .words)
-          (at .i)
-          (c .before .number .result)
-          (c .contents .result)
-          (start .pre .1 .0)
-          (entries-few (now (start .args .disk)) (start .pre .1 .1 .0) (start .pre .1 .1 .1 .0))
-          (c .before .before .loop-test .taken)
-          (c .before .number .ensures)
-          (c .contents .ensures)
+      rewrite-more (now (start .args .disk)) (at .words) (at .i) (start .pre .1 .0) (few start) (c .before .before .loop-test .taken)
+          (c .before .number .ensures) (c .contents .ensures)
           ∙ at .inv .2,
     )
 
 returns : tie.Need-returns Inv-loop μ-loop
 returns c =
     let start = c .before .before .before .before in
-    sym
-    (rewrite-end
-    (now (start .args .disk))
-    (c .before .loop .words)
-    (c .before .loop .i)
-    (start .pre .1 .0)
-    (entries-few (now (start .args .disk)) (start .pre .1 .1 .0) (start .pre .1 .1 .1 .0))
-    (c .loop-test .left))
-    ∙ c .before .loop .inv .2
+    let at = c .before .loop in
+    sym (rewrite-end (now (start .args .disk)) (at .words) (at .i) (start .pre .1 .0) (few start) (c .loop-test .left))
+    ∙ at .inv .2
 
 pub rewrite-spec : {M : Type 1} → statement M
 rewrite-spec =

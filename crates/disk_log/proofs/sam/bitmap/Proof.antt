@@ -52,7 +52,8 @@ loop-again c =
 returns : tie.Need-returns Inv-loop μ-loop
 returns c =
     let start = c .before .before in
-    copy-all (now (start .args .disk)) (c .before .loop .words) (c .before .loop .k) (c .before .loop .inv .1) (omega arith) (c .before .loop .inv .2)
+    let at = c .before .loop in
+    copy-all (now (start .args .disk)) (at .words) (at .k) (at .inv .1) (omega arith) (at .inv .2)
 
 pub bitmap-spec : {M : Type 1} → statement M
 bitmap-spec =

@@ -18,12 +18,8 @@ bitmap-requires c κs = search needs
 no-bits-from-requires : tie.Need-no-bits-from-requires
 no-bits-from-requires c κs =
     let start = c .before .before .before .before in (
-      rw
-          (c .before .bitmap .ensures)
-          (bitmap-is
-          (now (start .args .disk))
-          (start .pre .0)
-          (λ i. omega (arith, c .before .before .before .shared-slice-known .given i))),
+      rw (c .before .bitmap .ensures)
+          (bitmap-is (now (start .args .disk)) (start .pre .0) (λ i. omega (arith, c .before .before .before .shared-slice-known .given i))),
       start .pre .1,
     )
 

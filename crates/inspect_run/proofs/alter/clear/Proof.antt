@@ -1,7 +1,7 @@
 -- The measure is what is left to clear.
-use Prim.Native.Nat.{_≤_, _-_}
+use Prim.Native.Nat.{_-_}
 use mathlib.Core.Path.{_≡_}
-use lib.ListN.{length, length-set}
+use lib.ListN.{length}
 use borrow.Author.Needs.{needs}
 use Rattle.inspect_run.proofs.alter.clear.Statement.{statement}
 use Rattle.inspect_run.proofs.alter.clear.Tie as tie

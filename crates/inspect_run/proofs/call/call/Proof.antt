@@ -1,27 +1,29 @@
 -- The parts that are lent are parts of the disk and of the list.
 use mathlib.Core.Path.{sym}
-use native.Mathlib.Omega.{arith}
 use lib.Seq.{length-take-le}
-use Rattle.inspect_run.proofs.Laws.Shape.{shaped}
+use Rattle.inspect_run.proofs.Laws.Shape.{Parts, parts}
 use borrow.Author.Needs.{needs}
 use Rattle.inspect_run.proofs.call.call.Statement.{statement}
 use Rattle.inspect_run.proofs.call.call.Tie as tie
 
+fixture-parts : (s : tie.Start) → Parts (s .args .fixture)
+fixture-parts s = parts _ (s .good .1 .0) (s .pre)
+
 array-borrow-prefix-disk : tie.Need-array-borrow-prefix-disk
-array-borrow-prefix-disk c =
-    let s = c .before .before in omega (arith, shaped (s .args .fixture) _ (s .good .1 .0) .disk, s .pre .disk)
+array-borrow-prefix-disk c = fixture-parts (c .before .before) .disk
 
 slice-aggregate-any-call : tie.Need-slice-aggregate-any-call
 slice-aggregate-any-call c =
-    let s = c .before .before .before in sym (length-take-le (s .args .fixture .length) (s .args .fixture .disk) (omega (arith, shaped (s .args .fixture) _ (s .good .1 .0) .disk, s .pre .disk)))
+    let s = c .before .before .before in
+    sym (length-take-le (s .args .fixture .length) (s .args .fixture .disk) (fixture-parts s .disk))
 
 array-borrow-prefix-list : tie.Need-array-borrow-prefix-list
-array-borrow-prefix-list c =
-    let s = c .before .before .before in omega (arith, shaped (s .args .fixture) _ (s .good .1 .0) .list, s .pre .list)
+array-borrow-prefix-list c = fixture-parts (c .before .before .before) .list
 
 slice-aggregate-any-call-2 : tie.Need-slice-aggregate-any-call-2
 slice-aggregate-any-call-2 c =
-    let s = c .before .before .before .before in sym (length-take-le (s .args .fixture .places) (s .args .fixture .list) (omega (arith, shaped (s .args .fixture) _ (s .good .1 .0) .list, s .pre .list)))
+    let s = c .before .before .before .before in
+    sym (length-take-le (s .args .fixture .places) (s .args .fixture .list) (fixture-parts s .list))
 
 any-call-requires : tie.Need-any-call-requires
 any-call-requires c κs = search needs

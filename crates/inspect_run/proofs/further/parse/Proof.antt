@@ -1,6 +1,5 @@
 -- The word is a part of the line.
 use mathlib.Core.Path.{sym}
-use native.Mathlib.Omega.{arith}
 use lib.Seq.{length-take-le}
 use borrow.Author.Needs.{needs}
 use Rattle.inspect_run.proofs.further.parse.Statement.{statement}
@@ -10,7 +9,9 @@ find-requires : tie.Need-find-requires
 find-requires c κs = search needs
 
 slice-aggregate-name : tie.Need-slice-aggregate-name
-slice-aggregate-name c = sym (length-take-le (c .before .find .result) (c .before .before .before .args .line .now) (c .before .find .ensures .1))
+slice-aggregate-name c =
+    let found = c .before in
+    sym (length-take-le (found .find .result) (found .before .before .args .line .now) (found .find .ensures .1))
 
 numbers-from-requires : tie.Need-numbers-from-requires
 numbers-from-requires c κs = search needs

@@ -20,7 +20,13 @@ returns c =
     let s = p .before .before .before .before .before .args in
     record {
       size = search needs;
-      within = omega (arith, p .print-answer .ensures .nextIs, answer-length (s .number) (s .answer) (s .value), p .before .before .place .ensures);
+      within =
+          omega (
+            arith,
+            p .print-answer .ensures .nextIs,
+            answer-length (s .number) (s .answer) (s .value),
+            p .before .before .place .ensures,
+          );
     }
 
 pub put-answer-spec : {M : Type 1} → statement M

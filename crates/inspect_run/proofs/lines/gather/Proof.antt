@@ -1,13 +1,14 @@
 -- The line has a place for each byte kept.
 use Prim.Native.Nat.{_≤_, _-_}
 use mathlib.Core.Path.{_≡_}
-use lib.ListN.{length, length-set}
+use lib.ListN.{length}
 use borrow.Author.Needs.{needs}
+use Rattle.inspect_run.specs.Reads.{kept}
 use Rattle.inspect_run.proofs.lines.gather.Statement.{statement}
 use Rattle.inspect_run.proofs.lines.gather.Tie as tie
 
 abbrev Inv-loop : tie.InvT-loop
-Inv-loop input line₀ end at₀ len₀ line at len = (at ≤ end) × (end ≤ length input) × (len ≤ 65) × (length line ≡ 65)
+Inv-loop input line₀ end at₀ len₀ line at len = (at ≤ end) × (end ≤ length input) × (len ≤ kept) × (length line ≡ kept)
 
 abbrev μ-loop : tie.MeasureT-loop
 μ-loop input line₀ end at₀ len₀ line at len = end - at

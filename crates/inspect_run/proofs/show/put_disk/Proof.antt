@@ -1,11 +1,15 @@
 -- The part that is printed is a part of the disk.
 use mathlib.Core.Path.{sym}
-use native.Mathlib.Omega.{arith}
 use lib.Seq.{length-take-le}
-use Rattle.inspect_run.proofs.Laws.Shape.{shaped}
+use Rattle.inspect_run.proofs.Laws.Shape.{Parts, parts}
 use borrow.Author.Needs.{needs}
 use Rattle.inspect_run.proofs.show.put_disk.Statement.{statement}
 use Rattle.inspect_run.proofs.show.put_disk.Tie as tie
+
+fixture-parts : (s : tie.Start) → Parts (s .args .fixture)
+fixture-parts s =
+    let good = s .good .1 in
+    parts _ (good .1 .0) (s .pre .1)
 
 slice-aggregate-put-field : tie.Need-slice-aggregate-put-field
 slice-aggregate-put-field c = search needs
@@ -14,12 +18,12 @@ put-field-requires : tie.Need-put-field-requires
 put-field-requires c κs = search needs
 
 array-share-prefix-disk : tie.Need-array-share-prefix-disk
-array-share-prefix-disk c =
-    let s = c .before .before .before .before .before .before .before .before in omega (arith, shaped (s .args .fixture) _ (s .good .1 .1 .0) .disk, s .pre .1 .disk)
+array-share-prefix-disk c = fixture-parts (c .before .before .before .before .before .before .before .before) .disk
 
 slice-aggregate-put-words : tie.Need-slice-aggregate-put-words
 slice-aggregate-put-words c =
-    let s = c .before .before .before .before .before .before .before .before .before in sym (length-take-le (s .args .fixture .length) (s .args .fixture .disk) (omega (arith, shaped (s .args .fixture) _ (s .good .1 .1 .0) .disk, s .pre .1 .disk)))
+    let s = c .before .before .before .before .before .before .before .before .before in
+    sym (length-take-le (s .args .fixture .length) (s .args .fixture .disk) (fixture-parts s .disk))
 
 put-words-requires : tie.Need-put-words-requires
 put-words-requires c κs = search needs

@@ -1,11 +1,15 @@
 -- The part that is printed is a part of the list.
 use mathlib.Core.Path.{sym}
-use native.Mathlib.Omega.{arith}
 use lib.Seq.{length-take-le}
-use Rattle.inspect_run.proofs.Laws.Shape.{shaped}
+use Rattle.inspect_run.proofs.Laws.Shape.{Parts, parts}
 use borrow.Author.Needs.{needs}
 use Rattle.inspect_run.proofs.show.put_places.Statement.{statement}
 use Rattle.inspect_run.proofs.show.put_places.Tie as tie
+
+fixture-parts : (s : tie.Start) → Parts (s .args .fixture)
+fixture-parts s =
+    let good = s .good .1 in
+    parts _ (good .1 .0) (s .pre .1)
 
 slice-aggregate-put-field : tie.Need-slice-aggregate-put-field
 slice-aggregate-put-field c = search needs
@@ -14,12 +18,12 @@ put-field-requires : tie.Need-put-field-requires
 put-field-requires c κs = search needs
 
 array-share-prefix-list : tie.Need-array-share-prefix-list
-array-share-prefix-list c =
-    let s = c .before .before .before .before .before .before .before .before in omega (arith, shaped (s .args .fixture) _ (s .good .1 .1 .0) .list, s .pre .1 .list)
+array-share-prefix-list c = fixture-parts (c .before .before .before .before .before .before .before .before) .list
 
 slice-aggregate-put-list : tie.Need-slice-aggregate-put-list
 slice-aggregate-put-list c =
-    let s = c .before .before .before .before .before .before .before .before .before in sym (length-take-le (s .args .fixture .places) (s .args .fixture .list) (omega (arith, shaped (s .args .fixture) _ (s .good .1 .1 .0) .list, s .pre .1 .list)))
+    let s = c .before .before .before .before .before .before .before .before .before in
+    sym (length-take-le (s .args .fixture .places) (s .args .fixture .list) (fixture-parts s .list))
 
 put-list-requires : tie.Need-put-list-requires
 put-list-requires c κs = search needs

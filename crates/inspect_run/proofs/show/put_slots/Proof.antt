@@ -1,15 +1,16 @@
 -- The measure is the slots left.
 use Prim.Native.Nat.{_≤_, _-_}
+use Rattle.bitmap.specs.Sizes.{slotCount}
 use Rattle.printing.specs.Waits.{Waits}
 use borrow.Author.Needs.{needs}
 use Rattle.inspect_run.proofs.show.put_slots.Statement.{statement}
 use Rattle.inspect_run.proofs.show.put_slots.Tie as tie
 
 abbrev Inv-loop : tie.InvT-loop
-Inv-loop out₀ at memory end₀ s₀ out end s = (s ≤ 8) × Waits out end
+Inv-loop out₀ at memory end₀ s₀ out end s = (s ≤ slotCount) × Waits out end
 
 abbrev μ-loop : tie.MeasureT-loop
-μ-loop out₀ at memory end₀ s₀ out end s = 8 - s
+μ-loop out₀ at memory end₀ s₀ out end s = slotCount - s
 
 loop-holds : tie.Need-loop-holds Inv-loop μ-loop
 loop-holds c = search needs

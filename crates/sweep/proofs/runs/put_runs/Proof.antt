@@ -1,6 +1,5 @@
 -- The run in hand starts at or before the next word.
 use Prim.Native.Nat.{_≤_, _-_}
-use mathlib.Core.Path.{_≡_}
 use lib.ListN.{length}
 use borrow.Author.Needs.{needs}
 use Rattle.printing.specs.Waits.{Waits}

@@ -1,12 +1,13 @@
--- The allocates left fall; the list keeps its 64 places.
+-- The allocates left fall; the list keeps its places.
 use mathlib.Core.Path.{_≡_}
 use lib.ListN.{length}
 use borrow.Author.Needs.{needs}
+use Rattle.bitmap.specs.Sizes.{maxCount}
 use Rattle.sweep.proofs.volume.take_all.Statement.{statement}
 use Rattle.sweep.proofs.volume.take_all.Tie as tie
 
 abbrev Inv-loop : tie.InvT-loop
-Inv-loop list₀ state₀ left₀ list state left = length list ≡ 64
+Inv-loop list₀ state₀ left₀ list state left = length list ≡ maxCount
 
 abbrev μ-loop : tie.MeasureT-loop
 μ-loop list₀ state₀ left₀ list state left = left
