@@ -13,7 +13,7 @@ use borrow.Author.Tests.{eqb-true, leb-true, leb-false}
 use Rattle.model.specs.Sizes.{diskWords, bitmapAt, logAt}
 use Rattle.model.specs.Stores.{Store, _≔_, writes, changesFrom, changes, logStores}
 use Rattle.model.specs.Valid.{sameWords}
-use Rattle.model.specs.Disk.{diskBlocks, logLength, diskBitmap, diskOf}
+use Rattle.model.specs.Disk.{lengthIn, diskBlocks, logLength, diskBitmap, diskOf}
 use Rattle.model.proofs.Laws.Writes.{length-writes}
 use Rattle.model.proofs.Laws.Entries.{length-logStores, changes-length}
 use Rattle.model.proofs.Laws.DiskParts.{disk-parts, disk-bitmap-length, disk-log-length}
@@ -72,7 +72,7 @@ words-match disk done checkpointed k i (old ∷ olds) (new ∷ news) l h =
 pub disk-same : (disk : List ℕ) (blocks p : ℕ) (words log : List ℕ) → length disk ≡ diskWords → length words ≡ 128
     → sameWords disk (diskOf blocks p words log)
     ≡ ((eqb (diskBlocks disk) blocks && eqb (logLength disk) p) && (sameWords (diskBitmap disk) words && sameWords (drop logAt disk) log))
-unfolding sameWords
+unfolding sameWords lengthIn
 disk-same disk blocks p words log l m =
     ap (λ (d : List ℕ). sameWords d (diskOf blocks p words log)) (disk-parts disk (omega arith))
     ∙ ap (λ (t : Bool). eqb (diskBlocks disk) blocks && (eqb (logLength disk) p && t))

@@ -6,7 +6,7 @@ use denote.Ref.{now}
 use lib.ListN.{drop}
 use borrow.Author.Tests.{not-true, not-false}
 use Rattle.bitmap.specs.Sizes.{bitmapWords}
-use Rattle.model.specs.Disk.{diskBlocks, logLength, logEntries, entriesValid, logValid}
+use Rattle.model.specs.Disk.{lengthIn, diskBlocks, logLength, logEntries, entriesValid, logValid}
 use Rattle.disk_log.proofs.Laws.Log.{log-too-long, log-entries, follows-below, entries-stop, entries-go, entries-end}
 use Rattle.disk_log.proofs.log.log_valid.Statement.{statement}
 use Rattle.disk_log.proofs.log.log_valid.Tie as tie
@@ -30,6 +30,7 @@ words-for-requires : tie.Need-words-for-requires Inv-loop μ-loop
 words-for-requires c κs = omega arith
 
 returns : tie.Need-returns Inv-loop μ-loop
+unfolding lengthIn
 returns c =
     let start = c .before .before .before .before .before in
     sym (log-too-long (now (start .args .disk)) (omega (arith, c .before .words-for .ensures)))
@@ -38,6 +39,7 @@ cast-count : tie.Need-cast-count Inv-loop μ-loop
 cast-count c = omega arith
 
 loop-holds : tie.Need-loop-holds Inv-loop μ-loop
+unfolding lengthIn
 loop-holds c =
     let start = c .before .before .before .before .before in
     let few = c .before .words-for .ensures in
@@ -53,6 +55,7 @@ entry-valid-requires : tie.Need-entry-valid-requires Inv-loop μ-loop
 entry-valid-requires c κs = omega arith
 
 returns-2 : tie.Need-returns-2 Inv-loop μ-loop
+unfolding lengthIn
 returns-2 c =
     let start = c .before .before .before .before .before .before .before .before .before .before .before in
     let at = c .before .before .before .before .before .loop in
@@ -76,9 +79,11 @@ add-i : tie.Need-add-i Inv-loop μ-loop
 add-i c = omega arith
 
 loop-less : tie.Need-loop-less Inv-loop μ-loop
+unfolding lengthIn
 loop-less c = omega arith
 
 loop-again : tie.Need-loop-again Inv-loop μ-loop
+unfolding lengthIn
 loop-again c =
     let start = c .before .before .before .before .before .before .before .before .before .before .before in
     let at = c .before .before .before .before .before .loop in (
@@ -91,6 +96,7 @@ loop-again c =
     )
 
 returns-3 : tie.Need-returns-3 Inv-loop μ-loop
+unfolding lengthIn
 returns-3 c =
     let start = c .before .before .before .before .before .before .before in
     let at = c .before .loop in

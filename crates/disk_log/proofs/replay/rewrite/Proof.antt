@@ -6,7 +6,7 @@ use denote.Ref.{now}
 use lib.ListN.{length, drop, length-set}
 use Rattle.bitmap.specs.Sizes.{bitmapWords}
 use Rattle.model.specs.Stores.{writes}
-use Rattle.model.specs.Disk.{logLength, logEntries}
+use Rattle.model.specs.Disk.{lengthIn, logLength, logEntries}
 use Rattle.disk_log.proofs.Laws.Replay.{entries-few, place-below, rewrite-more, rewrite-end}
 use Rattle.disk_log.proofs.replay.rewrite.Statement.{statement}
 use Rattle.disk_log.proofs.replay.rewrite.Tie as tie
@@ -28,6 +28,7 @@ few start =
 
 -- the entry that is read is for a word of the bitmap
 within : (c : tie.After-contents Inv-loop μ-loop) → c .before .number .result < bitmapWords
+unfolding lengthIn
 within c =
     let start = c .before .before .before .before .before .before in
     let log = start .pre .1 .1 in
@@ -50,12 +51,14 @@ loop-holds c =
     (omega arith, start .pre .0, refl)
 
 number-requires : tie.Need-number-requires Inv-loop μ-loop
+unfolding lengthIn
 number-requires c κs = omega (arith, few (c .before .before .before .before))
 
 cast-place : tie.Need-cast-place Inv-loop μ-loop
 cast-place c = omega arith
 
 contents-requires : tie.Need-contents-requires Inv-loop μ-loop
+unfolding lengthIn
 contents-requires c κs = omega (arith, few (c .before .before .before .before .before))
 
 mul-words : tie.Need-mul-words Inv-loop μ-loop
@@ -68,9 +71,11 @@ add-i : tie.Need-add-i Inv-loop μ-loop
 add-i c = omega (arith, few (c .before .before .before .before .before .before))
 
 loop-less : tie.Need-loop-less Inv-loop μ-loop
+unfolding lengthIn
 loop-less c = omega arith
 
 loop-again : tie.Need-loop-again Inv-loop μ-loop
+unfolding lengthIn
 loop-again c =
     let start = c .before .before .before .before .before .before in
     let at = c .before .before .before .loop in (
@@ -82,6 +87,7 @@ loop-again c =
     )
 
 returns : tie.Need-returns Inv-loop μ-loop
+unfolding lengthIn
 returns c =
     let start = c .before .before .before .before in
     let at = c .before .loop in

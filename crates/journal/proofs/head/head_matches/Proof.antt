@@ -1,4 +1,5 @@
 -- Each return has the tests that led to it.
+use Rattle.model.specs.Disk.{lengthIn}
 use borrow.Author.Tests.{eq-eqb, ne-eqb}
 use borrow.Author.Needs.{needs}
 use Rattle.journal.proofs.head.head_matches.Statement.{statement}
@@ -14,6 +15,7 @@ shared-slice-read-result : tie.Need-shared-slice-read-result
 shared-slice-read-result c = search needs
 
 returns-2 : tie.Need-returns-2
+unfolding lengthIn
 returns-2 c = simp (eq-eqb _ _ (c .before .if1 .left))
 
 pub head-matches-spec : {M : Type 1} → statement M

@@ -3,6 +3,7 @@ use native.Mathlib.Omega.{arith}
 use denote.Ref.{now}
 use borrow.Author.Needs.{needs}
 use Rattle.disk_log.proofs.Laws.Replay.{entries-few}
+use Rattle.model.specs.Disk.{lengthIn}
 use Rattle.journal.proofs.Laws.NextStore.{recovery-word, recovery-last}
 use Rattle.journal.proofs.next.recovery_next.Statement.{statement}
 use Rattle.journal.proofs.next.recovery_next.Tie as tie
@@ -14,11 +15,13 @@ cast-if1 : tie.Need-cast-if1
 cast-if1 c = omega (arith, c .shared-slice-known2 .given 1)
 
 returns : tie.Need-returns
+unfolding lengthIn
 returns c =
     let start = c .before .before .before in
     recovery-last (now (start .args .disk)) (start .pre .0) (start .pre .1 .0) (start .pre .1 .1 .0) (start .args .done) (c .if1 .taken)
 
 number-requires : tie.Need-number-requires
+unfolding lengthIn
 number-requires c κs =
     let start = c .before .before .before in
     (start .pre .0, omega (arith, entries-few (now (start .args .disk)) (start .pre .1 .0) (start .pre .1 .1 .0), c .if1 .left))
@@ -30,11 +33,13 @@ add-t7 : tie.Need-add-t7
 add-t7 c = search needs
 
 contents-requires : tie.Need-contents-requires
+unfolding lengthIn
 contents-requires c κs =
     let start = c .before .before .before .before in
     (start .pre .0, omega (arith, entries-few (now (start .args .disk)) (start .pre .1 .0) (start .pre .1 .1 .0)))
 
 returns-2 : tie.Need-returns-2
+unfolding lengthIn
 returns-2 c =
     let start = c .before .before .before .before .before in
     recovery-word

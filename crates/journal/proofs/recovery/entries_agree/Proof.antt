@@ -4,7 +4,7 @@ use mathlib.Core.Path.{_≡_, refl, sym, _∙_}
 use native.Mathlib.Omega.{arith}
 use denote.Ref.{now}
 use lib.ListN.{drop}
-use Rattle.model.specs.Disk.{logLength, logEntries, entriesAgree}
+use Rattle.model.specs.Disk.{lengthIn, logLength, logEntries, entriesAgree}
 use Rattle.disk_log.proofs.Laws.Replay.{entries-few, place-below}
 use Rattle.journal.proofs.Laws.Recovery.{agree-stop, agree-go, agree-end}
 use Rattle.journal.proofs.recovery.entries_agree.Statement.{statement}
@@ -26,6 +26,7 @@ loop-holds : tie.Need-loop-holds Inv-loop μ-loop
 loop-holds c = (omega arith, refl)
 
 number-requires : tie.Need-number-requires Inv-loop μ-loop
+unfolding lengthIn
 number-requires c κs =
     let start = c .before .before .before .before in
     omega (arith, entries-few (now (start .args .disk)) (start .pre .1 .0) (start .pre .1 .1 .0))
@@ -34,6 +35,7 @@ cast-place : tie.Need-cast-place Inv-loop μ-loop
 cast-place c = omega arith
 
 mul-if1 : tie.Need-mul-if1 Inv-loop μ-loop
+unfolding lengthIn
 mul-if1 c =
     let start = c .before .before .before .before .before in
     omega (
@@ -49,6 +51,7 @@ mul-if1 c =
     )
 
 element-copy-out-if1 : tie.Need-element-copy-out-if1 Inv-loop μ-loop
+unfolding lengthIn
 element-copy-out-if1 c =
     let start = c .before .before .before .before .before in
     omega (
@@ -64,11 +67,13 @@ element-copy-out-if1 c =
     )
 
 contents-requires : tie.Need-contents-requires Inv-loop μ-loop
+unfolding lengthIn
 contents-requires c κs =
     let start = c .before .before .before .before .before .before in
     omega (arith, entries-few (now (start .args .disk)) (start .pre .1 .0) (start .pre .1 .1 .0))
 
 returns : tie.Need-returns Inv-loop μ-loop
+unfolding lengthIn
 returns c =
     let start = c .before .before .before .before .before .before .before .before in
     let at = c .before .before .before .before .before .loop in
@@ -94,9 +99,11 @@ add-i c =
     omega (arith, entries-few (now (start .args .disk)) (start .pre .1 .0) (start .pre .1 .1 .0))
 
 loop-less : tie.Need-loop-less Inv-loop μ-loop
+unfolding lengthIn
 loop-less c = omega arith
 
 loop-again : tie.Need-loop-again Inv-loop μ-loop
+unfolding lengthIn
 loop-again c =
     let start = c .before .before .before .before .before .before .before .before in
     let at = c .before .before .before .before .before .loop in
@@ -118,6 +125,7 @@ loop-again c =
     )
 
 returns-2 : tie.Need-returns-2 Inv-loop μ-loop
+unfolding lengthIn
 returns-2 c =
     let start = c .before .before .before .before in
     sym

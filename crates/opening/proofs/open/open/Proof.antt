@@ -1,6 +1,7 @@
 use mathlib.Core.Path.{sym, ap, _∙_}
 use native.Mathlib.Omega.{arith}
 use Rattle.model.specs.declared.answer.StoresAnswer.{StoresAnswer}
+use Rattle.model.specs.Disk.{lengthIn}
 use Rattle.model.proofs.Laws.DiskParts.{opens-parts}
 use Rattle.verdicts.proofs.Laws.Verdicts.{refused-some, accepted-none}
 use Rattle.opening.proofs.Laws.Open.{few-logged, accepted, refused}
@@ -36,6 +37,7 @@ shared-slice-read-recovery-due c = omega (arith, opens-parts _ (accepted-none _ 
 
 -- src/open.rt:89:39
 recovery-due-requires : tie.Need-recovery-due-requires
+unfolding lengthIn
 recovery-due-requires c κs = few-logged _ (accepted-none _ (sym (sym (c .before .enum-told .given .1) ∙ c .before .before .before .open-verdict .ensures)))
 
 -- src/open.rt:90:21
@@ -50,6 +52,7 @@ returns c = let q = refused-some _ _ (sym (sym (c .before .before .error .given 
 
 -- src/open.rt:79:1
 returns-2 : tie.Need-returns-2
+unfolding lengthIn
 returns-2 c = let q = accepted-none _ (sym (sym (c .before .before .before .enum-told .given .1) ∙ c .before .before .before .before .before .open-verdict .ensures)) in
     let a = accepted _ q in
     (ap StoresAnswer.Due (c .before .recovery-due .ensures) ∙ a .0, c .opened .ensures ∙ a .1)

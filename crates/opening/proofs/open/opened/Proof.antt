@@ -5,7 +5,7 @@ use native.Mathlib.Omega.{arith}
 use denote.Ref.{now}
 use Rattle.model.specs.declared.memory.Pending.{Pending}
 use Rattle.model.specs.Memory.{quietMemory, bitmap}
-use Rattle.model.specs.Disk.{diskBlocks}
+use Rattle.model.specs.Disk.{lengthIn, diskBlocks}
 use Rattle.model.specs.Calls.Opening.{opened}
 use Rattle.model.proofs.Laws.DiskParts.{opens-parts}
 use Rattle.opening.proofs.Laws.Open.{log-there, few-logged}
@@ -32,6 +32,7 @@ shared-slice-read-recovery c = omega (arith, opens-parts _ (c .before .before .b
 
 -- src/open.rt:75:41
 recovery-requires : tie.Need-recovery-requires
+unfolding lengthIn
 recovery-requires c κs = few-logged _ (c .before .before .before .before .pre)
 
 -- src/open.rt:75:5
@@ -40,7 +41,7 @@ quiet-requires c κs = search needs
 
 -- src/open.rt:68:1
 returns : tie.Need-returns
-unfolding opened
+unfolding opened lengthIn
 returns c = let a = c .before .before .before .before .before .before .args in
     c .quiet .ensures
     ∙ ap₂
