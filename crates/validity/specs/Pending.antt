@@ -8,7 +8,7 @@ use Rattle.bitmap.proofs.Laws.Majority.{majorityWord}
 use Rattle.bitops.specs.Combine.{zip3}
 use Rattle.model.specs.declared.memory.SlotState.{SlotState}
 use Rattle.model.specs.Memory.{isPrecommitted}
-use Rattle.model.specs.Stores.{changes}
+use Rattle.model.specs.Stores.{changes, storesFor}
 
 -- d, by the majority of whole words
 unfoldable pub changedWords : List ℕ → List ℕ → List ℕ → ℕ
@@ -20,5 +20,5 @@ unfoldable pub commitValid : SlotState → List ℕ → List ℕ → List ℕ �
 commitValid state sam «com» tam done due =
     isPrecommitted state
     && leb 1 (changedWords sam «com» tam)
-    && eqb due (3 * changedWords sam «com» tam + 2)
+    && eqb due (storesFor (changedWords sam «com» tam))
     && ltb done due

@@ -15,7 +15,7 @@ use Rattle.model.specs.Errors.{unlessRefused}
 use Rattle.model.specs.Answers.{due}
 use Rattle.model.specs.Memory.{slotAt, isPrecommitted, withPending}
 use Rattle.model.specs.Causes.{slotPrecommitted, slotNotPrecommitted}
-use Rattle.model.specs.Stores.{changes}
+use Rattle.model.specs.Stores.{changes, storesFor}
 use Rattle.model.specs.Commit.{committedSam, entriesOf, changedOf, commitDue, committed}
 use Rattle.model.specs.Calls.Committing.{commitError, committing, commitAnswer, commitMemory}
 use Rattle.model.proofs.Laws.Shape.{Shaped}
@@ -81,7 +81,7 @@ module _ (memory : Memory) (s : ℕ) where
   none-due z = rw (eq-eqb (changedOf memory s) 0 z) (refl, refl)
 
   -- "Otherwise that call answers 3·d + 2"
-  pub some-due : (changedOf memory s ≡ 0 → ⊥) → 3 * changedOf memory s + 2 ≡ commitDue memory s
+  pub some-due : (changedOf memory s ≡ 0 → ⊥) → storesFor (changedOf memory s) ≡ commitDue memory s
   some-due n = sym (commit-due memory s (omega (arith, n)))
 
   -- and its stores are pending

@@ -14,8 +14,9 @@ use Rattle.model.specs.Sizes.{diskWords, logAt}
 use Rattle.model.specs.Commit.{committedSam, entriesOf, changedOf}
 use Rattle.model.specs.Valid.{sameWords}
 use Rattle.model.specs.Disk.{diskBitmap, diskMatches}
+use Rattle.model.specs.Stores.{changedFor}
 use Rattle.model.proofs.Laws.Writes.{words-same}
-use Rattle.model.proofs.Laws.Entries.{changes-length}
+use Rattle.model.proofs.Laws.Entries.{changes-length, changed-stores}
 use Rattle.journal.specs.Matching.{headIs, wordsMatch, lengthAfter, checkpointedAfter}
 use Rattle.disk_log.proofs.Laws.Tests.{and-left, and-right, and-none}
 use Rattle.model.proofs.Laws.Shape.{Shaped}
@@ -46,11 +47,11 @@ changed-few memory s shape = omega (arith, changes-length (memory .sam .words) (
 module _ (memory : Memory) (disk : List ℕ) (s done due : ℕ)
     (l : length disk ≡ diskWords) (shape : Shaped memory) (hand : CommitInHand memory s done due) where
   commit-parts : diskMatches memory disk (Commit s done due)
-      ≡ (headIs disk (memory .blocks) (lengthAfter ((due - 2) / 3) done)
-      && wordsMatch disk done (checkpointedAfter ((due - 2) / 3) done) 0 0 (memory .sam .words) (committedSam memory s .words))
+      ≡ (headIs disk (memory .blocks) (lengthAfter (changedFor due) done)
+      && wordsMatch disk done (checkpointedAfter (changedFor due) done) 0 0 (memory .sam .words) (committedSam memory s .words))
   unfolding diskMatches entriesOf changedOf
   commit-parts =
-      let d : (due - 2) / 3 ≡ changedOf memory s = omega (arith, hand .due-is) in
+      let d : changedFor due ≡ changedOf memory s = ap changedFor (hand .due-is) ∙ changed-stores (changedOf memory s) in
       commit-matches
       (memory .blocks)
       disk
@@ -63,16 +64,16 @@ module _ (memory : Memory) (disk : List ℕ) (s done due : ℕ)
       (omega (arith, hand .due-is, hand .done-less))
       ∙ rw d
 
-  pub commit-stop : (entries : ℕ) (head : Bool) → entries ≡ lengthAfter ((due - 2) / 3) done → head ≡ headIs disk (memory .blocks) entries
+  pub commit-stop : (entries : ℕ) (head : Bool) → entries ≡ lengthAfter (changedFor due) done → head ≡ headIs disk (memory .blocks) entries
       → head ≡ false → diskMatches memory disk (Commit s done due) ≡ false
   commit-stop entries head e h f =
       commit-parts ∙ and-none _ (ap (headIs disk (memory .blocks)) (sym e) ∙ sym h ∙ f)
 
   pub commit-go : (entries checkpointed : ℕ) (new : List ℕ) (head words : Bool)
-      → entries ≡ lengthAfter ((due - 2) / 3) done
+      → entries ≡ lengthAfter (changedFor due) done
       → head ≡ headIs disk (memory .blocks) entries
       → head ≡ true
-      → checkpointed ≡ checkpointedAfter ((due - 2) / 3) done
+      → checkpointed ≡ checkpointedAfter (changedFor due) done
       → new ≡ committedSam memory s .words
       → words ≡ wordsMatch disk done checkpointed 0 0 (memory .sam .words) new
       → diskMatches memory disk (Commit s done due) ≡ words

@@ -11,7 +11,7 @@ use lib.Seq.{drop-cons, take-all}
 use lib.Dec.{leb, eqb}
 use borrow.Author.Tests.{eqb-true, leb-true, leb-false}
 use Rattle.model.specs.Sizes.{diskWords, bitmapAt, logAt}
-use Rattle.model.specs.Stores.{Store, _≔_, writes, changesFrom, changes, logStores}
+use Rattle.model.specs.Stores.{Store, _≔_, writes, changesFrom, changes, logStores, storesFor}
 use Rattle.model.specs.Valid.{sameWords}
 use Rattle.model.specs.Disk.{lengthIn, diskBlocks, logLength, diskBitmap, diskOf}
 use Rattle.model.proofs.Laws.Writes.{length-writes}
@@ -80,7 +80,7 @@ disk-same disk blocks p words log l m =
     ∙ sym (and-assoc (eqb (diskBlocks disk) blocks) (eqb (logLength disk) p) (sameWords (diskBitmap disk) words && sameWords (drop logAt disk) log))
 
 -- the disk after any number of a commit's stores but all, by its parts
-commit-parts : (blocks : ℕ) (sam log : List ℕ) (es : List Store) (done : ℕ) → CommitFrom sam log es → done < 3 * length es + 2
+commit-parts : (blocks : ℕ) (sam log : List ℕ) (es : List Store) (done : ℕ) → CommitFrom sam log es → done < storesFor (length es)
     → commitDisk blocks sam log es done
     ≡ diskOf blocks (lengthAfter (length es) done) (writes (take (checkpointedAfter (length es) done) es) sam) (writes (take done (logStores 0 es)) log)
 unfolding writes
@@ -100,7 +100,7 @@ commit-parts blocks sam log es done from h = go (leb done (2 * length es)) refl
 
 -- the disk is as the stores of a commit leave it
 pub commit-matches : (blocks : ℕ) (disk sam new : List ℕ) (done : ℕ) → length disk ≡ diskWords → length sam ≡ 128 → length new ≡ 128
-    → done < 3 * length (changes sam new) + 2
+    → done < storesFor (length (changes sam new))
     → sameWords disk (commitDisk blocks sam (drop logAt disk) (changes sam new) done)
     ≡ ((eqb (diskBlocks disk) blocks && eqb (logLength disk) (lengthAfter (length (changes sam new)) done))
     && wordsMatch disk done (checkpointedAfter (length (changes sam new)) done) 0 0 sam new)

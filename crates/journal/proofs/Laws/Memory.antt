@@ -15,6 +15,7 @@ use Rattle.model.specs.declared.memory.Pending.the-variants.{Commit, Recovery}
 use Rattle.model.specs.Memory.{slotAt, idleSlot}
 use Rattle.model.specs.Commit.{committedSam, changedOf}
 use Rattle.model.specs.Valid.{slotValid, pendingValid, valid}
+use Rattle.model.specs.Stores.{storesFor}
 use Rattle.model.proofs.Laws.Writes.{and-first, words-same}
 use Rattle.model.proofs.Laws.Entries.{noBits-cons}
 use Rattle.model.proofs.Laws.Valid.{ValidParts, valid-parts, allSlots-at}
@@ -73,7 +74,7 @@ committed-words memory slot s p shape e =
 pub record CommitInHand (memory : Memory) (s done due : ℕ) : Type 0 where
   pub slot-below : s < slotCount
   pub some : 1 ≤ changedOf memory s
-  pub due-is : due ≡ 3 * changedOf memory s + 2
+  pub due-is : due ≡ storesFor (changedOf memory s)
   pub done-less : done < due
 
 pub commit-in-hand : (memory : Memory) (s done due : ℕ) → valid memory ≡ true → Shaped memory

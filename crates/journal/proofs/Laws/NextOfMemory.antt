@@ -9,7 +9,7 @@ use Rattle.bitmap.specs.Sizes.{maxBlocks}
 use Rattle.model.specs.declared.memory.Memory.{Memory}
 use Rattle.model.specs.declared.memory.Pending.{Pending}
 use Rattle.model.specs.declared.memory.Pending.the-variants.{Nothing, Commit, Recovery}
-use Rattle.model.specs.Stores.{Store, writes, changes, commitStores, checkpointStores}
+use Rattle.model.specs.Stores.{Store, writes, changes, commitStores, checkpointStores, changedFor}
 use Rattle.model.specs.Commit.{committedSam, entriesOf, changedOf}
 use Rattle.model.specs.Valid.{valid}
 use Rattle.model.specs.Disk.{diskBlocks, logLength, logEntries, logValid, dueStores, diskMatches}
@@ -26,7 +26,7 @@ use Rattle.journal.proofs.Laws.Recovery.{Agrees, log-agrees, recovery-p
 
 -- the number of changed words, from the stores due
 pub changed-is : (memory : Memory) (s done due : ℕ) (new : List ℕ) → CommitInHand memory s done due → new ≡ committedSam memory s .words
-    → (due - 2) / 3 ≡ length (changes (memory .sam .words) new)
+    → changedFor due ≡ length (changes (memory .sam .words) new)
 unfolding changedOf entriesOf
 changed-is memory s done due new hand e = rw e (omega (arith, hand .due-is))
 

@@ -13,7 +13,7 @@ use lib.Seq.{take-append-le, take-append-add, take-all}
 use Rattle.bitmap.specs.Sizes.{maxBlocks, bitmapWords, wordsFor}
 use Rattle.bitmap.specs.Bits.{noBitsFrom}
 use Rattle.model.specs.Sizes.{lengthAt, logAt, logWords}
-use Rattle.model.specs.Stores.{Store, _≔_, writes, after, changes, logStores, onDisk, checkpointWith, journalWith, commitPoint, closingStores, commitStores}
+use Rattle.model.specs.Stores.{Store, _≔_, writes, after, changes, logStores, onDisk, checkpointWith, journalWith, commitPoint, closingStores, commitStores, storesFor}
 use Rattle.model.specs.Disk.{lengthIn, diskOf, entriesIn, entriesValid, durable}
 use Rattle.model.specs.Calls.Opening.{openError}
 use Rattle.model.proofs.Laws.Writes.{writes-append, length-writes, writes-take-again, writes-twice}
@@ -187,12 +187,12 @@ module _ (blocks : ℕ) (sam log : List ℕ) (es : List Store) (from : CommitFro
   pub commit-before : (k : ℕ) → k ≤ 2 * length es → commitDisk blocks sam log es k ≡ diskOf blocks 0 sam (writes (take k (logStores 0 es)) log)
   commit-before k h = commit-journal k ∙ journal-before blocks (commitPoint es) sam log closingStores es from k h
 
-  pub commit-after : (k : ℕ) → 2 * length es < k → k < 3 * length es + 2
+  pub commit-after : (k : ℕ) → 2 * length es < k → k < storesFor (length es)
       → commitDisk blocks sam log es k ≡ diskOf blocks (commitPoint es) (writes (take (k - (2 * length es + 1)) es) sam) (logged log es)
   commit-after k h g = commit-journal k ∙ journal-after blocks (commitPoint es) sam log closingStores es from k h (omega arith)
 
   -- at the end word 1 is 0
-  pub commit-end : (k : ℕ) → 3 * length es + 2 ≤ k → commitDisk blocks sam log es k ≡ diskOf blocks 0 (writes es sam) (logged log es)
+  pub commit-end : (k : ℕ) → storesFor (length es) ≤ k → commitDisk blocks sam log es k ≡ diskOf blocks 0 (writes es sam) (logged log es)
   unfolding writes
   commit-end k h =
       commit-journal k
@@ -204,7 +204,7 @@ module _ (blocks : ℕ) (sam log : List ℕ) (es : List Store) (from : CommitFro
 -- the log words of the disk itself serve as well as those that it started from
 pub commit-own-log : (blocks : ℕ) (sam log : List ℕ) (es : List Store)
     → CommitFrom sam log es → (k : ℕ) → commitDisk blocks sam (drop logAt (commitDisk blocks sam log es k)) es k ≡ commitDisk blocks sam log es k
-commit-own-log blocks sam log es from k = go (decLe k (2 * length es)) (decLe (3 * length es + 2) k)
+commit-own-log blocks sam log es from k = go (decLe k (2 * length es)) (decLe (storesFor (length es)) k)
   where
     disk : List ℕ
     disk = commitDisk blocks sam log es k
@@ -221,7 +221,7 @@ commit-own-log blocks sam log es from k = go (decLe k (2 * length es)) (decLe (3
     written : (s : List Store) → length (writes s log) ≡ logWords
     written s = length-writes s log ∙ from .log-length
 
-    go : Dec (k ≤ 2 * length es) → Dec (3 * length es + 2 ≤ k) → commitDisk blocks sam (drop logAt disk) es k ≡ disk
+    go : Dec (k ≤ 2 * length es) → Dec (storesFor (length es) ≤ k) → commitDisk blocks sam (drop logAt disk) es k ≡ disk
     go (yes h) d =
         let some : List Store = take k (logStores 0 es) in
         own-log

@@ -1,5 +1,5 @@
 -- Valid pending work, part by part: a commit and its 3·d + 2 stores, a recovery; and with one more store done.
-use Prim.Native.Nat.{ℕ, _+_, _*_, _≤_, _<_}
+use Prim.Native.Nat.{ℕ, _+_, _≤_, _<_}
 use native.Mathlib.Decide.{decLe}
 use native.Mathlib.Nat.{lt-of-not-le}
 use native.Mathlib.Omega.{arith}
@@ -11,7 +11,7 @@ use borrow.Author.Tests.{eqb-false, leb-true, ltb-true, eqb-true, le-leb, lt-ltb
 use Rattle.bitmap.specs.Sizes.{slotCount}
 use Rattle.model.specs.Types.{SlotState, Idle, Open, Precommitted, Slot, Pending, Nothing, Commit, Recovery, Memory}
 use Rattle.model.specs.Memory.{slotAt, idleSlot, isActive, isPrecommitted, withPending, volumeWords}
-use Rattle.model.specs.Stores.{commitStores}
+use Rattle.model.specs.Stores.{commitStores, storesFor}
 use Rattle.model.specs.Commit.{committedSam, entriesOf, changedOf, commitDue}
 use Rattle.model.specs.Pending.{storesDone, storesDue, oneMoreDone}
 use Rattle.model.specs.Valid.{isQuiet, pendingValid}
@@ -21,7 +21,7 @@ use Rattle.model.proofs.Laws.Valid.{ValidParts}
 use Rattle.model.proofs.Laws.Touches.{pending-valid}
 
 -- "Otherwise that call answers 3·d + 2"
-pub commit-due : (memory : Memory) (s : ℕ) → 1 ≤ changedOf memory s → commitDue memory s ≡ 3 * changedOf memory s + 2
+pub commit-due : (memory : Memory) (s : ℕ) → 1 ≤ changedOf memory s → commitDue memory s ≡ storesFor (changedOf memory s)
 unfolding commitDue changedOf
 commit-due memory s h =
     ap (λ (t : Bool). cond t 0 (length (commitStores (entriesOf memory s)))) (ne-eqb (changedOf memory s) 0 (λ e. omega (arith, e, h)))
@@ -32,7 +32,7 @@ commit-due memory s h =
 pub record CommitParts (memory : Memory) (s done due : ℕ) : Type 0 where
   pub precommitted : isPrecommitted (slotAt memory s .state) ≡ true
   pub some-changed : 1 ≤ changedOf memory s
-  pub due-is : due ≡ 3 * changedOf memory s + 2
+  pub due-is : due ≡ storesFor (changedOf memory s)
   pub not-ended : done < due
 
 module _ (memory : Memory) (s done due : ℕ) where
@@ -83,7 +83,7 @@ pub begun-valid : (memory : Memory) (s : ℕ) → eqb (changedOf memory s) 0 ≡
 unfolding pendingValid changedOf entriesOf committedSam commitDue
 begun-valid memory s changes-some parts precommitted =
     let some-changed : 1 ≤ changedOf memory s = omega (arith, eqb-false (changedOf memory s) 0 changes-some) in
-    let due-is : commitDue memory s ≡ 3 * changedOf memory s + 2 = commit-due memory s some-changed in
+    let due-is : commitDue memory s ≡ storesFor (changedOf memory s) = commit-due memory s some-changed in
     pending-valid memory (Commit s 0 (commitDue memory s)) parts
     (parts-commit memory s 0 (commitDue memory s)
     (record { precommitted = precommitted; some-changed = some-changed; due-is = due-is; not-ended = omega (arith, due-is) }))

@@ -12,7 +12,7 @@ use lib.Dec.{leb, ltb, eqb}
 use borrow.Author.Tests.{ltb-true, leb-true, eqb-true, eqb-false, eq-eqb, lt-ltb, le-leb}
 use Rattle.bitmap.specs.Sizes.{maxBlocks, bitmapWords, wordsFor}
 use Rattle.bitmap.specs.Bits.{noBitsFrom}
-use Rattle.model.specs.Stores.{Store, _≔_, writes, changesFrom, changes, logStores, onDisk, checkpointWith, journalWith, commitPoint, closingStores, commitStores}
+use Rattle.model.specs.Stores.{Store, _≔_, writes, changesFrom, changes, logStores, onDisk, checkpointWith, journalWith, commitPoint, closingStores, commitStores, storesFor, changedFor}
 use Rattle.model.specs.Disk.{entriesIn, entriesValid, entriesAgree}
 use Rattle.model.proofs.Laws.Writes.{and-both, and-first, and-second}
 
@@ -31,10 +31,12 @@ pub length-journalWith : (point : ℕ) (closing es : List Store) → length (jou
 unfolding journalWith
 length-journalWith point closing es = simp (length-append, length-logStores, length-checkpointWith) (omega arith)
 
--- 3·d + 2
-pub length-commitStores : (es : List Store) → length (commitStores es) ≡ 3 * length es + 2
+pub length-commitStores : (es : List Store) → length (commitStores es) ≡ storesFor (length es)
 unfolding commitStores
 length-commitStores es = omega (arith, length-journalWith (commitPoint es) closingStores es)
+
+pub changed-stores : (d : ℕ) → changedFor (storesFor d) ≡ d
+changed-stores d = omega arith
 
 -- every entry's place is below n
 abbrev pub Places : ℕ → List Store → Type 0

@@ -19,7 +19,7 @@ use Rattle.model.specs.declared.memory.Slot.{Slot}
 use Rattle.model.specs.declared.memory.Pending.{Pending}
 use Rattle.model.specs.declared.memory.Memory.{Memory}
 use Rattle.model.specs.Memory.{idleSlot, slotAt, isActive, isPrecommitted, volumeWords}
-use Rattle.model.specs.Stores.{Store, changes, changesFrom}
+use Rattle.model.specs.Stores.{Store, changes, changesFrom, storesFor}
 use Rattle.model.specs.Commit.{committedSam, entriesOf, changedOf, commitDue}
 use Rattle.model.specs.Valid.{sameWords, allSlots, isQuiet, pendingValid}
 use Rattle.validity.specs.Pending.{changedWords, commitValid}
@@ -47,12 +47,12 @@ changed-most old new is = omega (arith, changes-most 0 old new, is .size)
 module _ (state : SlotState) (sam «com» tam : List ℕ) (done due words : ℕ) (d : words ≡ changedWords sam «com» tam) where
   -- what a commit that fits has
   commit-parts : commitValid state sam «com» tam done due ≡ true
-      → (isPrecommitted state ≡ true) × (1 ≤ words) × (due ≡ 3 * words + 2)
+      → (isPrecommitted state ≡ true) × (1 ≤ words) × (due ≡ storesFor words)
   unfolding commitValid
   commit-parts h =
       let r = both _ _ (both _ _ h .0) in
       let q = both _ _ (r .0) in
-      (q .0, rw d (leb-true 1 (changedWords sam «com» tam) (q .1)), rw d (eqb-true due (3 * changedWords sam «com» tam + 2) (r .1)))
+      (q .0, rw d (leb-true 1 (changedWords sam «com» tam) (q .1)), rw d (eqb-true due (storesFor (changedWords sam «com» tam)) (r .1)))
 
   pub commit-open : isPrecommitted state ≡ false → false ≡ commitValid state sam «com» tam done due
   commit-open e = not-true-false _ (λ h. false≢true (sym e ∙ commit-parts h .0))
@@ -60,15 +60,15 @@ module _ (state : SlotState) (sam «com» tam : List ℕ) (done due words : ℕ)
   pub commit-none : words < 1 → false ≡ commitValid state sam «com» tam done due
   commit-none l = not-true-false _ (λ h. omega (arith, commit-parts h .1))
 
-  pub commit-due : (due ≡ 3 * words + 2 → ⊥) → false ≡ commitValid state sam «com» tam done due
+  pub commit-due : (due ≡ storesFor words → ⊥) → false ≡ commitValid state sam «com» tam done due
   commit-due n = not-true-false _ (λ h. n (commit-parts h .2))
 
   -- what is left to test
-  pub commit-rest : isPrecommitted state ≡ true → 1 ≤ words → due ≡ 3 * words + 2 → ltb done due ≡ commitValid state sam «com» tam done due
+  pub commit-rest : isPrecommitted state ≡ true → 1 ≤ words → due ≡ storesFor words → ltb done due ≡ commitValid state sam «com» tam done due
   unfolding commitValid
   commit-rest p l e =
       sym (ap (λ (t : Bool). t && ltb done due)
-      (and-both _ _ (and-both _ _ p (rw d at (le-leb 1 words l))) (rw d at (eq-eqb due (3 * words + 2) e))))
+      (and-both _ _ (and-both _ _ p (rw d at (le-leb 1 words l))) (rw d at (eq-eqb due (storesFor words) e))))
 
 -- the same slot, under another name
 pub commit-slot : {slot other : Slot} (sam «com» : List ℕ) (done due : ℕ) → slot ≡ other
@@ -78,8 +78,8 @@ commit-slot sam «com» done due e = ap (λ (slot : Slot). commitValid (slot .st
 -- ---- a commit in its memory
 
 -- the stores due of a commit that changes a word are 3·d + 2; for one that changes none, both tests are false
-same-due : (precommitted : Bool) (d due commit : ℕ) → (1 ≤ d → commit ≡ 3 * d + 2)
-    → (precommitted && leb 1 d && eqb due (3 * d + 2)) ≡ (precommitted && leb 1 d && eqb due commit)
+same-due : (precommitted : Bool) (d due commit : ℕ) → (1 ≤ d → commit ≡ storesFor d)
+    → (precommitted && leb 1 d && eqb due (storesFor d)) ≡ (precommitted && leb 1 d && eqb due commit)
 same-due true zero due commit e = refl
 same-due false zero due commit e = refl
 same-due precommitted (suc d) due commit e = ap (λ (n : ℕ). precommitted && leb 1 (suc d) && eqb due n) (sym (e (omega arith)))
@@ -105,7 +105,7 @@ module _ (memory : Memory) (s : ℕ) (shape : Shaped memory) (most : memory .blo
       ≡ pendingValid memory (Pending.Commit s done due)
   unfolding commitValid pendingValid
   commit-valid done due =
-      ap (λ (d : ℕ). isPrecommitted (slotAt memory s .state) && leb 1 d && eqb due (3 * d + 2) && ltb done due) (sym changed-words)
+      ap (λ (d : ℕ). isPrecommitted (slotAt memory s .state) && leb 1 d && eqb due (storesFor d) && ltb done due) (sym changed-words)
       ∙ ap (λ (t : Bool). t && ltb done due)
       (same-due (isPrecommitted (slotAt memory s .state)) (changedOf memory s) due (commitDue memory s) (due-is memory s))
 
