@@ -24,8 +24,8 @@ use Rattle.model.proofs.Laws.Numbers.{grant-number}
 use Rattle.model.proofs.Laws.Accepted.{Ready, allocate-accepted}
 use Rattle.model.proofs.Laws.Valid.{ValidParts, valid-parts, slot-below, touches-at, touches-one, touchesBlock}
 use Rattle.model.proofs.Laws.Taking.{Available, AllAvailable, lowest-available}
-use Rattle.crash_safety.specs.Ledger.{Sets, Ledger, setsOf, withSets, holders, entered, takes}
-use Rattle.crash_safety.specs.World.{World, worldOf, event, made, step}
+use Rattle.crash_safety.specs.Ledger.{enterAll, Sets, Ledger, setsOf, withSets, holders, entered, takes}
+use Rattle.crash_safety.specs.World.{World, worldOf, events, step}
 use Rattle.crash_safety.proofs.Holders.{one, one-le, takers-none}
 use Rattle.crash_safety.proofs.Invariant.{Tied, Plain, Invariant}
 use Rattle.crash_safety.proofs.Refused.{memory-keeps}
@@ -179,7 +179,7 @@ listed memory s count list e =
     (omega (arith, length-take count (available memory), allocate-accepted memory s count list e .enough))
 
 pub allocate-keeps : (w : World) (s count : ℕ) (list : List ℕ) → Invariant w → Invariant (step (allocateCall s count list) w)
-unfolding step made event outcome entered allocateMemory allocateAnswer
+unfolding step events enterAll outcome entered allocateMemory allocateAnswer
 allocate-keeps w s count list i =
     memory-keeps w (allocateError (w .memory) s count list) (taking (w .memory) s (lowest (w .memory) count)) _
     (grant-number (allocateError (w .memory) s count list) (getD (lowest (w .memory) count) 0 0)) i

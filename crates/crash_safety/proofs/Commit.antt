@@ -24,8 +24,8 @@ use Rattle.model.proofs.Laws.Writes.{writes-changes}
 use Rattle.model.proofs.Laws.Valid.{ValidParts, valid-parts}
 use Rattle.model.proofs.Laws.Commit.{committed-bits}
 use Rattle.model.proofs.Laws.Committed.{committed-bitmap}
-use Rattle.crash_safety.specs.Ledger.{Sets, setsOf, setsWords, counts, withCounting, entered, holders}
-use Rattle.crash_safety.specs.World.{World, worldOf, event, made, step}
+use Rattle.crash_safety.specs.Ledger.{enterAll, Sets, setsOf, setsWords, counts, withCounting, entered, holders}
+use Rattle.crash_safety.specs.World.{World, worldOf, events, step}
 use Rattle.crash_safety.proofs.Invariant.{Tied, Plain, Related, Invariant, countingOf}
 use Rattle.crash_safety.proofs.Refused.{memory-keeps}
 use Rattle.crash_safety.proofs.Touching.{plain, active-taken, active-freed}
@@ -146,7 +146,7 @@ module _ (w : World) (s : ℕ) (i : Invariant w) (a : CommitAccepted (w .memory)
       go false e = begun (commitDue (w .memory) s)
 
 pub commit-keeps : (w : World) (s : ℕ) → Invariant w → Invariant (step (commitCall s) w)
-unfolding step made event outcome entered commitMemory commitAnswer
+unfolding step events enterAll outcome entered commitMemory commitAnswer
 commit-keeps w s i =
     memory-keeps w (commitError (w .memory) s) (committing (w .memory) s) _ (stores-number (commitError (w .memory) s) (commitDue (w .memory) s)) i
     (λ e. committing-keeps w s i (commit-accepted (w .memory) s e))

@@ -14,7 +14,7 @@ use Rattle.model.specs.Valid.{sameWords}
 use Rattle.model.specs.Disk.{durable, baseImage}
 use Rattle.model.specs.Calls.Opening.{openError}
 use Rattle.model.proofs.Laws.Writes.{same-words, writes-changes, store-next-one}
-use Rattle.model.proofs.Laws.Entries.{changes-valid, changes-count}
+use Rattle.model.proofs.Laws.Changes.{changes-valid, changes-count}
 use Rattle.model.proofs.Laws.DiskParts.{disk-log-length, point-told}
 use Rattle.model.proofs.Laws.Valid.{ValidParts}
 use Rattle.model.proofs.Laws.Committed.{committed-bitmap, committed-below}

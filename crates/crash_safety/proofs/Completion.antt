@@ -22,8 +22,8 @@ use Rattle.model.specs.Completion.{State, StoresAccepted, afterStores, complete
 use Rattle.model.specs.Outcome.{outcome, storeCall}
 use Rattle.model.proofs.Laws.Accepted.{accepted-store}
 use Rattle.model.proofs.Laws.Valid.{valid-parts}
-use Rattle.model.proofs.Laws.Committing.{commit-parts, recovery-parts}
-use Rattle.crash_safety.specs.World.{World, made, step, run}
+use Rattle.model.proofs.Laws.Pending.{commit-parts, recovery-parts}
+use Rattle.crash_safety.specs.World.{World, step, run}
 use Rattle.crash_safety.specs.InOrder.{Consistent, InUse, Completes}
 use Rattle.crash_safety.proofs.Invariant.{Invariant}
 use Rattle.crash_safety.proofs.Keeps.{step-keeps}
@@ -78,7 +78,7 @@ stored n w = run (replicate n storeCall) w
 
 -- memory and disk after them
 pub after-stored : (n : ℕ) (w : World) → afterStores n (w .memory) (w .disk) ≡ record { memory = stored n w .memory; disk = stored n w .disk }
-unfolding run step made outcome
+unfolding run step outcome
 after-stored zero w = refl
 after-stored (suc n) w = after-stored n (step storeCall w)
 
@@ -89,7 +89,7 @@ pub record Ended (n : ℕ) (w : World) : Type 0 where
   pub none-left : storesLeft (stored n w .memory .pending) ≡ 0
 
 pub ends : (n : ℕ) (w : World) → Invariant w → InUse w → storesLeft (w .memory .pending) ≡ n → Ended n w
-unfolding run step made outcome storeMemory unlessRefused
+unfolding run step outcome storeMemory unlessRefused
 ends zero w i c e = record { accepted = tt; invariant = i; in-use = c; none-left = e }
 ends (suc n) w i c e =
     let passes = store-passes w c (some-left (w .memory .pending) n e) in

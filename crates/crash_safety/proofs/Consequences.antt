@@ -24,10 +24,10 @@ use Rattle.model.specs.Outcome.{Call, outcome, crashCall}
 use Rattle.model.proofs.Laws.Accepted.{allocate-accepted}
 use Rattle.model.proofs.Laws.Valid.{ValidParts, valid-parts}
 use Rattle.model.proofs.Laws.Commit.{committed-bits}
-use Rattle.model.proofs.Laws.Committing.{commit-parts, precommitted-active}
+use Rattle.model.proofs.Laws.Pending.{commit-parts, precommitted-active}
 use Rattle.model.proofs.Laws.Taking.{lowest-available}
-use Rattle.crash_safety.specs.Ledger.{Ledger, noSets, setsOf, emptied, holders, enter, entered}
-use Rattle.crash_safety.specs.World.{World, begin, event, made, step, run}
+use Rattle.crash_safety.specs.Ledger.{enterAll, Ledger, noSets, setsOf, emptied, holders, enter, entered}
+use Rattle.crash_safety.specs.World.{World, begin, events, step, run}
 use Rattle.crash_safety.specs.InOrder.{InUse, WorkCompletes}
 use Rattle.crash_safety.proofs.Invariant.{PendingTied, Invariant}
 use Rattle.crash_safety.proofs.Touching.{plain}
@@ -36,7 +36,7 @@ use Rattle.crash_safety.proofs.Crash.{alike}
 use Rattle.crash_safety.proofs.Keeps.{step-keeps, run-keeps, begins-formatted}
 use Rattle.crash_safety.proofs.Completion.{completes}
 use Rattle.crash_safety.proofs.Theorem.{safe, crash-safe}
-use Rattle.crash_safety.proofs.Recovering.{Recovering, crash-settled, run-settled}
+use Rattle.crash_safety.proofs.Recovering.{Recovering, crash-settles, run-settled}
 
 -- whether an open of this disk finds the block allocated
 abbrev pub found : List ℕ → ℕ → Bool
@@ -96,12 +96,12 @@ module _ (blocks : ℕ) (some-blocks : 1 ≤ blocks) (few : blocks ≤ maxBlocks
 
   -- A crash loses every unfinished transaction
   pub crash-loses-unfinished : (s : ℕ) → setsOf (step crashCall w .ledger) s ≡ noSets
-  unfolding step made event outcome enter entered emptied
+  unfolding step events enterAll outcome enter entered emptied
   crash-loses-unfinished s = alike slotCount s noSets
 
   -- and nothing else: the next open finds the allocated set as it was before the crash.
   pub crash-keeps-allocated : (b : ℕ) → found (step crashCall w .disk) b ≡ member b (w .ledger .allocated)
-  unfolding step made outcome
+  unfolding step outcome
   crash-keeps-allocated b = finds b
 
   -- A second crash inside a recovery is harmless, any number of times: after a crash come opens, stores and crashes in any
@@ -111,7 +111,7 @@ module _ (blocks : ℕ) (some-blocks : 1 ≤ blocks) (few : blocks ≤ maxBlocks
   recovery-again later r b =
       let after : World = step crashCall w in
       safe (run later after) (run-keeps later after (step-keeps crashCall w reached)) .finds b
-      ∙ ap (member b) (run-settled later after (w .ledger .allocated) r (crash-settled (w .ledger .allocated) w refl) .same)
+      ∙ ap (member b) (run-settled later after (w .ledger .allocated) r (crash-settles (w .ledger .allocated) w refl) .same)
       ∙ sym (finds b)
 
 -- In use a commit, or a recovery, can be brought to its end.

@@ -25,8 +25,8 @@ use Rattle.model.specs.Answers.{statusNumber}
 use Rattle.model.specs.Outcome.{outcome, openCall, statusCall, crashCall}
 use Rattle.model.proofs.Laws.Numbers.{numberOf, stores-number}
 use Rattle.model.proofs.Laws.Durable.{durable-length}
-use Rattle.crash_safety.specs.Ledger.{Sets, noSets, Ledger, emptied, entered, enter, holders}
-use Rattle.crash_safety.specs.World.{World, worldOf, event, made, step}
+use Rattle.crash_safety.specs.Ledger.{Event, Sets, noSets, Ledger, emptied, entered, enter, enterAll, crashEvent, holders, opening}
+use Rattle.crash_safety.specs.World.{World, worldOf, eventOf, events, step}
 use Rattle.crash_safety.proofs.Holders.{one-le, takers-crashed}
 use Rattle.crash_safety.proofs.Invariant.{Tied, Plain, PendingTied, Invariant}
 use Rattle.crash_safety.proofs.Refused.{enter-accepted}
@@ -50,7 +50,7 @@ emptied-holders ledger b = omega (arith, one-le (member b (ledger .allocated)), 
 -- ---- a crash
 
 pub crash-keeps : (w : World) → Invariant w → Invariant (step crashCall w)
-unfolding step made event outcome enter entered emptied
+unfolding step events enterAll outcome enter entered emptied
 crash-keeps w i =
     record {
       small = i .small;
@@ -110,20 +110,20 @@ open-number : (disk : List ℕ) → openError disk ≡ none → storesNumber (op
 unfolding openAnswer
 open-number disk e = stores-number (openError disk) (recoveryDue (logLength disk)) ∙ ap numberOf e
 
-made-open-keeps : (w : World) → Invariant w → Invariant (made openCall w)
-unfolding made event outcome entered
-made-open-keeps w i =
-    subst (λ (m : Memory). Invariant (worldOf m (w .disk) ledger)) (sym (open-memory (w .disk) (i .opens)))
-    (subst (λ (l : Ledger). Invariant (worldOf (opened (w .disk)) (w .disk) l))
-    (sym (enter-accepted _ (w .ledger) (open-number (w .disk) (i .opens))))
-    (opened-keeps w i))
-  where
-    ledger : Ledger
-    ledger = enter (event openCall (outcome openCall (w .memory) (w .disk))) (w .ledger)
-
 pub open-keeps : (w : World) → Invariant w → Invariant (step openCall w)
-unfolding step
-open-keeps w i = made-open-keeps (made crashCall w) (crash-keeps w i)
+unfolding step events enterAll outcome entered
+open-keeps w i =
+    subst (λ (m : Memory). Invariant (worldOf m (w .disk) (enter opens after))) (sym (open-memory (w .disk) (i .opens)))
+    (subst (λ (l : Ledger). Invariant (worldOf (opened (w .disk)) (w .disk) l))
+    (sym (enter-accepted opens after (open-number (w .disk) (i .opens))))
+    (opened-keeps (step crashCall w) (crash-keeps w i)))
+  where
+    -- the ledger after the crash
+    after : Ledger
+    after = enter crashEvent (w .ledger)
+
+    opens : Event
+    opens = eventOf opening 0 0 (outcome openCall (w .memory) (w .disk))
 
 -- ---- status
 
@@ -132,6 +132,6 @@ either-way true ledger = refl
 either-way false ledger = refl
 
 pub status-keeps : (w : World) → Invariant w → Invariant (step statusCall w)
-unfolding step made event outcome enter entered
+unfolding step events enterAll outcome enter entered
 status-keeps w i =
     subst (λ (l : Ledger). Invariant (worldOf (w .memory) (w .disk) l)) (sym (either-way (eqb (statusNumber (statusAnswer (w .memory))) 0) (w .ledger))) i

@@ -18,8 +18,8 @@ use Rattle.model.specs.Outcome.{outcome, deallocateCall}
 use Rattle.model.proofs.Laws.Numbers.{done-number}
 use Rattle.model.proofs.Laws.Accepted.{deallocate-accepted}
 use Rattle.model.proofs.Laws.Valid.{ValidParts, valid-parts, slot-below}
-use Rattle.crash_safety.specs.Ledger.{Sets, Ledger, setsOf, withSets, holders, entered, frees}
-use Rattle.crash_safety.specs.World.{World, event, made, step}
+use Rattle.crash_safety.specs.Ledger.{enterAll, Sets, Ledger, setsOf, withSets, holders, entered, frees}
+use Rattle.crash_safety.specs.World.{World, events, step}
 use Rattle.crash_safety.proofs.Invariant.{Tied, Invariant}
 use Rattle.crash_safety.proofs.Refused.{memory-keeps}
 use Rattle.crash_safety.proofs.Touching.{plain, sets-there, touching, holders-set, active-taken, active-freed, volume-bit}
@@ -70,7 +70,7 @@ none-from memory s block parts b h =
     ∙ and-false (not (eqb b block))
 
 pub deallocate-keeps : (w : World) (s block : ℕ) → Invariant w → Invariant (step (deallocateCall s block) w)
-unfolding step made event outcome entered deallocateMemory deallocateAnswer frees freeing
+unfolding step events enterAll outcome entered deallocateMemory deallocateAnswer frees freeing
 deallocate-keeps w s block i =
     memory-keeps w (deallocateError (w .memory) s block) (freeing (w .memory) s block) _ (done-number (deallocateError (w .memory) s block)) i
     (λ e.

@@ -28,13 +28,6 @@ takers-set b (suc s) (own ∷ slots) sets h =
     takers-set b s slots sets (le-of-suc-le-suc h) in
     omega arith
 
--- a slot that has taken a block is one of its takers
-pub takers-at : (b s : ℕ) (slots : List Sets) → one (member b (getD slots s noSets .taken)) ≤ takers b slots
-unfolding takers member
-takers-at b s [] = omega arith
-takers-at b zero (own ∷ slots) = omega arith
-takers-at b (suc s) (own ∷ slots) = let ih = takers-at b s slots in omega arith
-
 -- a block that no slot has taken has no taker
 pub takers-none : (b : ℕ) (slots : List Sets) → ((s : ℕ) → member b (getD slots s noSets .taken) ≡ false) → takers b slots ≡ 0
 unfolding takers

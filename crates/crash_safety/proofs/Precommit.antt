@@ -9,8 +9,8 @@ use Rattle.model.specs.Calls.Precommit.{precommitError, precommitting, precommi
 use Rattle.model.specs.Outcome.{outcome, precommitCall}
 use Rattle.model.proofs.Laws.Numbers.{done-number}
 use Rattle.model.proofs.Laws.Accepted.{precommit-accepted}
-use Rattle.crash_safety.specs.Ledger.{Sets, setsOf, entered}
-use Rattle.crash_safety.specs.World.{World, event, made, step}
+use Rattle.crash_safety.specs.Ledger.{enterAll, Sets, setsOf, entered}
+use Rattle.crash_safety.specs.World.{World, events, step}
 use Rattle.crash_safety.proofs.Invariant.{Tied, Invariant}
 use Rattle.crash_safety.proofs.Refused.{memory-keeps}
 use Rattle.crash_safety.proofs.Touching.{plain, touching-alone, active-taken, active-freed}
@@ -21,7 +21,7 @@ precommitted-tie sam slot sets active tie =
     record { taken = active-taken sam slot sets tie active; freed = active-freed sam slot sets tie active }
 
 pub precommit-keeps : (w : World) (s : ℕ) → Invariant w → Invariant (step (precommitCall s) w)
-unfolding step made event outcome entered precommitMemory precommitAnswer precommitting
+unfolding step events enterAll outcome entered precommitMemory precommitAnswer precommitting
 precommit-keeps w s i =
     memory-keeps w (precommitError (w .memory) s) (precommitting (w .memory) s) _ (done-number (precommitError (w .memory) s)) i
     (λ e.

@@ -7,8 +7,8 @@ use mathlib.Core.List.{List, [], _∷_}
 use lib.ListN.{replicate}
 use lib.Dec.{eqb}
 use Rattle.model.specs.Outcome.{Call, outcome, openCall, startCall, allocateCall, deallocateCall, precommitCall, commitCall, rollbackCall, storeCall, statusCall, crashCall}
-use Rattle.crash_safety.specs.Ledger.{Ledger, Counting, emptied, enter, entered, stores}
-use Rattle.crash_safety.specs.World.{World, event, made, step, run}
+use Rattle.crash_safety.specs.Ledger.{Ledger, Counting, emptied, enter, entered, enterAll, stores}
+use Rattle.crash_safety.specs.World.{World, events, step, run}
 
 -- opens, stores, crashes and questions, in any order
 abbrev pub Recovers : Call → Type 0
@@ -37,29 +37,31 @@ pub record Settled (allocated : List ℕ) (ledger : Ledger) : Type 0 where
   pub uncounted : ledger .counting ≡ none
 
 module _ (allocated : List ℕ) (w : World) where
-  pub crash-settled : w .ledger .allocated ≡ allocated → Settled allocated (made crashCall w .ledger)
-  unfolding made event outcome enter entered emptied
-  crash-settled e = record { same = e; uncounted = refl }
+  -- a crash settles whatever was under count
+  pub crash-settles : w .ledger .allocated ≡ allocated → Settled allocated (step crashCall w .ledger)
+  unfolding step events enterAll outcome enter entered emptied
+  crash-settles e = record { same = e; uncounted = refl }
+
+  -- and so does an open, which is a crash first
+  pub open-settles : w .ledger .allocated ≡ allocated → Settled allocated (step openCall w .ledger)
+  unfolding step events enterAll outcome enter entered emptied
+  open-settles e = go (eqb (outcome openCall (w .memory) (w .disk) .number) 0)
+    where
+      go : (t : Bool) → Settled allocated (cond t (emptied (emptied (w .ledger))) (emptied (w .ledger)))
+      go true = record { same = e; uncounted = refl }
+      go false = record { same = e; uncounted = refl }
 
   module _ (s : Settled allocated (w .ledger)) where
-    open-settled : Settled allocated (made openCall w .ledger)
-    unfolding made event outcome enter entered emptied
-    open-settled = go (eqb (outcome openCall (w .memory) (w .disk) .number) 0)
-      where
-        go : (t : Bool) → Settled allocated (cond t (emptied (w .ledger)) (w .ledger))
-        go true = record { same = s .same; uncounted = refl }
-        go false = s
-
-    store-settled : Settled allocated (made storeCall w .ledger)
-    unfolding made event enter entered stores
+    store-settled : Settled allocated (step storeCall w .ledger)
+    unfolding step events enterAll enter entered stores
     store-settled = go (eqb (outcome storeCall (w .memory) (w .disk) .number) 0)
       where
         go : (t : Bool) → Settled allocated (cond t (stores (w .ledger) (w .ledger .counting)) (w .ledger))
         go true = subst (λ (c : Option Counting). Settled allocated (stores (w .ledger) c)) (sym (s .uncounted)) s
         go false = s
 
-    status-settled : Settled allocated (made statusCall w .ledger)
-    unfolding made event enter entered
+    status-settled : Settled allocated (step statusCall w .ledger)
+    unfolding step events enterAll enter entered
     status-settled = go (eqb (outcome statusCall (w .memory) (w .disk) .number) 0)
       where
         go : (t : Bool) → Settled allocated (cond t (w .ledger) (w .ledger))
@@ -67,11 +69,10 @@ module _ (allocated : List ℕ) (w : World) where
         go false = s
 
 step-settled : (call : Call) (w : World) (allocated : List ℕ) → Recovers call → Settled allocated (w .ledger) → Settled allocated (step call w .ledger)
-unfolding step
-step-settled openCall w allocated r s = open-settled allocated (made crashCall w) (crash-settled allocated w (s .same))
+step-settled openCall w allocated r s = open-settles allocated w (s .same)
 step-settled storeCall w allocated r s = store-settled allocated w s
 step-settled statusCall w allocated r s = status-settled allocated w s
-step-settled crashCall w allocated r s = crash-settled allocated w (s .same)
+step-settled crashCall w allocated r s = crash-settles allocated w (s .same)
 step-settled (startCall s) w allocated r t = absurd r
 step-settled (allocateCall s count list) w allocated r t = absurd r
 step-settled (deallocateCall s block) w allocated r t = absurd r
@@ -84,8 +85,3 @@ pub run-settled : (calls : List Call) (w : World) (allocated : List ℕ) → Rec
 unfolding run
 run-settled [] w allocated r s = s
 run-settled (call ∷ calls) w allocated r s = run-settled calls (step call w) allocated (r .1) (step-settled call w allocated (r .0) s)
-
--- an open is a crash first, so it settles whatever was under count
-pub open-settles : (w : World) → Settled (w .ledger .allocated) (step openCall w .ledger)
-unfolding step
-open-settles w = open-settled (w .ledger .allocated) (made crashCall w) (crash-settled (w .ledger .allocated) w refl)

@@ -10,8 +10,8 @@ use Rattle.model.specs.Calls.Rollback.{rollbackError, rolledBackCom, rolledBack
 use Rattle.model.specs.Outcome.{outcome, rollbackCall}
 use Rattle.model.proofs.Laws.Numbers.{done-number}
 use Rattle.model.proofs.Laws.Accepted.{rollback-accepted}
-use Rattle.crash_safety.specs.Ledger.{noSets, Ledger, withSets, holders, entered}
-use Rattle.crash_safety.specs.World.{World, event, made, step}
+use Rattle.crash_safety.specs.Ledger.{enterAll, noSets, Ledger, withSets, holders, entered}
+use Rattle.crash_safety.specs.World.{World, events, step}
 use Rattle.crash_safety.proofs.Invariant.{Tied, Invariant}
 use Rattle.crash_safety.proofs.Refused.{memory-keeps}
 use Rattle.crash_safety.proofs.Touching.{sets-there, touching, holders-set}
@@ -25,7 +25,7 @@ unfolding member
 fewer ledger s b h k = omega (arith, holders-set ledger s b noSets h)
 
 pub rollback-keeps : (w : World) (s : ℕ) → Invariant w → Invariant (step (rollbackCall s) w)
-unfolding step made event outcome entered rollbackMemory rollbackAnswer rolledBack
+unfolding step events enterAll outcome entered rollbackMemory rollbackAnswer rolledBack
 rollback-keeps w s i =
     memory-keeps w (rollbackError (w .memory) s) (rolledBack (w .memory) s) _ (done-number (rollbackError (w .memory) s)) i
     (λ e.

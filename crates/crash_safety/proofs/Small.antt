@@ -14,7 +14,7 @@ use Rattle.model.specs.Stores.{Store, writes, changesFrom, logStores, onDisk, c
 use Rattle.bitmap.specs.Sizes.{wordBits, bitmapWords}
 use Rattle.model.specs.Sizes.{lengthAt, bitmapAt, logAt}
 use Rattle.model.specs.Disk.{logLength, diskBitmap, entriesIn, logEntries, durable}
-use Rattle.model.proofs.Laws.Entries.{Places}
+use Rattle.model.proofs.Laws.Places.{Places}
 use Rattle.crash_safety.proofs.Invariant.{Small}
 
 -- every value of a list of stores fits

@@ -9,8 +9,8 @@ use Rattle.model.specs.Calls.Start.{startError, started, startMemory, startAnsw
 use Rattle.model.specs.Outcome.{outcome, startCall}
 use Rattle.model.proofs.Laws.Numbers.{done-number}
 use Rattle.model.proofs.Laws.Accepted.{start-accepted}
-use Rattle.crash_safety.specs.Ledger.{Sets, setsOf, entered}
-use Rattle.crash_safety.specs.World.{World, event, made, step}
+use Rattle.crash_safety.specs.Ledger.{enterAll, Sets, setsOf, entered}
+use Rattle.crash_safety.specs.World.{World, events, step}
 use Rattle.crash_safety.proofs.Invariant.{Tied, Invariant}
 use Rattle.crash_safety.proofs.Refused.{memory-keeps}
 use Rattle.crash_safety.proofs.Touching.{plain, touching-alone}
@@ -34,7 +34,7 @@ new-tie sam slot new sets idle copy active tie =
     }
 
 pub start-keeps : (w : World) (s : ℕ) → Invariant w → Invariant (step (startCall s) w)
-unfolding step made event outcome entered startMemory startAnswer started
+unfolding step events enterAll outcome entered startMemory startAnswer started
 start-keeps w s i =
     memory-keeps w (startError (w .memory) s) (started (w .memory) s) _ (done-number (startError (w .memory) s)) i
     (λ e.

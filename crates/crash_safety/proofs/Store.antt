@@ -15,10 +15,10 @@ use Rattle.model.specs.Outcome.{outcome, storeCall}
 use Rattle.model.proofs.Laws.Numbers.{stores-number}
 use Rattle.model.proofs.Laws.Accepted.{store-accepted}
 use Rattle.model.proofs.Laws.Valid.{valid-parts}
-use Rattle.model.proofs.Laws.Committing.{commit-parts}
+use Rattle.model.proofs.Laws.Pending.{commit-parts}
 use Rattle.model.proofs.Laws.Matching.{matching-parts}
-use Rattle.crash_safety.specs.Ledger.{stores, entered}
-use Rattle.crash_safety.specs.World.{World, worldOf, event, made, step}
+use Rattle.crash_safety.specs.Ledger.{enterAll, stores, entered}
+use Rattle.crash_safety.specs.World.{World, worldOf, events, step}
 use Rattle.crash_safety.proofs.Invariant.{PendingTied, Invariant}
 use Rattle.crash_safety.proofs.Refused.{call-keeps}
 use Rattle.crash_safety.proofs.StoreCommit.{commit-store-keeps}
@@ -47,7 +47,7 @@ by-pending w i v size (Recovery k due) e valid-pending matching tied =
     recovery-store-keeps w k due i (related .sam) (related .slots) (matching-parts (w .memory) (w .disk) k due matching) tied
 
 pub store-keeps : (w : World) → Invariant w → Invariant (step storeCall w)
-unfolding step made event outcome entered storeMemory storeDisk storeAnswer nextStored
+unfolding step events enterAll outcome entered storeMemory storeDisk storeAnswer nextStored
 store-keeps w i =
     call-keeps w (storeError (w .memory) (w .disk)) (advanced (w .memory) (w .memory .pending)) (nextStored (w .memory) (w .disk)) _
     (stores-number (storeError (w .memory) (w .disk)) (stillDue (w .memory .pending))) i

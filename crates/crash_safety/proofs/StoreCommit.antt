@@ -29,7 +29,7 @@ use Rattle.model.specs.Calls.Opening.{openError}
 use Rattle.model.specs.Calls.Storing.{advanced}
 use Rattle.model.proofs.Laws.Valid.{ValidParts}
 use Rattle.model.proofs.Laws.Commit.{committed-bits}
-use Rattle.model.proofs.Laws.Committing.{CommitParts, precommitted-active, precommitted-below}
+use Rattle.model.proofs.Laws.Pending.{CommitParts, precommitted-active, precommitted-below}
 use Rattle.crash_safety.specs.Ledger.{Sets, noSets, Ledger, setsOf, commits, stores, withCounting, holders}
 use Rattle.crash_safety.specs.World.{World, worldOf}
 use Rattle.crash_safety.proofs.Invariant.{Tied, Plain, Past, PendingTied, Related, Invariant, countingOf}

@@ -17,7 +17,7 @@ use Rattle.model.specs.Calls.Opening.{openError, recoveryDue, recoveryPending, 
 use Rattle.model.specs.Completion.{State}
 use Rattle.model.specs.Outcome.{outcome, openCall}
 use Rattle.model.proofs.Laws.Matching.{quiet-durable}
-use Rattle.crash_safety.specs.World.{World, begin, made, step, run}
+use Rattle.crash_safety.specs.World.{World, begin, step, run}
 use Rattle.crash_safety.specs.Statement.{Safe, openDue, CrashSafe}
 use Rattle.crash_safety.proofs.Invariant.{Invariant}
 use Rattle.crash_safety.proofs.Crash.{open-memory}
@@ -49,7 +49,7 @@ module _ (w : World) (i : Invariant w) where
   n = openDue (w .disk)
 
   recovered : Ended n opening
-  unfolding step made outcome
+  unfolding step outcome
   recovered = ends n opening (step-keeps openCall w i) (open-uses w i) (open-left (w .disk) (i .opens))
 
   -- words 2 to 129 are then what the disk stands for
@@ -62,10 +62,10 @@ module _ (w : World) (i : Invariant w) where
 
   -- and the allocated set is that of before
   allocated-stays : Settled (w .ledger .allocated) (stored n opening .ledger)
-  allocated-stays = run-settled _ opening (w .ledger .allocated) (stores-recover n) (open-settles w)
+  allocated-stays = run-settled _ opening (w .ledger .allocated) (stores-recover n) (open-settles (w .ledger .allocated) w refl)
 
   pub safe : Safe w
-  unfolding step made outcome opened
+  unfolding step outcome opened
   safe =
       record {
         one-holder = i .one-holder;

@@ -129,6 +129,15 @@ entered crashing s block listed ledger = emptied ledger
 unfoldable pub enter : Event → Ledger → Ledger
 enter event ledger = cond (eqb (event .answer) 0) (entered (event .kind) (event .slot) (event .block) (event .listed) ledger) ledger
 
+-- one event after the other
+unfoldable pub enterAll : List Event → Ledger → Ledger
+enterAll [] ledger = ledger
+enterAll (event ∷ events) ledger = enterAll events (enter event ledger)
+
+-- a crash
+abbrev pub crashEvent : Event
+crashEvent = record { kind = crashing; slot = 0; block = 0; answer = 0; listed = [] }
+
 -- how many slots have a block in their taken
 unfoldable pub takers : ℕ → List Sets → ℕ
 takers b [] = 0

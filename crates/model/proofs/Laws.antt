@@ -4,7 +4,10 @@ pub mod First
 pub mod Numbers
 pub mod Writes
 pub mod Accepted
+pub mod Places
+pub mod StoreLists
 pub mod Entries
+pub mod Changes
 pub mod DiskParts
 pub mod Closing
 pub mod Shape
@@ -16,7 +19,7 @@ pub mod Rollback
 pub mod Untouched
 pub mod Taking
 pub mod Committed
-pub mod Committing
+pub mod Pending
 pub mod CommitLog
 pub mod Durable
 pub mod RecoveryLog

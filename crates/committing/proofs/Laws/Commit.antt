@@ -19,10 +19,10 @@ use Rattle.model.specs.Stores.{changes, storesFor}
 use Rattle.model.specs.Commit.{committedSam, entriesOf, changedOf, commitDue, committed}
 use Rattle.model.specs.Calls.Committing.{commitError, committing, commitAnswer, commitMemory}
 use Rattle.model.proofs.Laws.Shape.{Shaped}
-use Rattle.model.proofs.Laws.Entries.{changes-length}
+use Rattle.model.proofs.Laws.Changes.{changes-length}
 use Rattle.model.proofs.Laws.First.{cause-holds, cause-passed, no-cause}
 use Rattle.model.proofs.Laws.Accepted.{Ready, commit-accepted}
-use Rattle.model.proofs.Laws.Committing.{commit-due}
+use Rattle.model.proofs.Laws.Pending.{commit-due}
 use Rattle.verdicts.specs.declared.verdict.Verdict.{Verdict}
 use Rattle.verdicts.specs.Verdicts.{verdict}
 use Rattle.verdicts.specs.Ready.{activeCauses, activeError}

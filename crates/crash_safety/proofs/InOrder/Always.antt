@@ -19,7 +19,7 @@ use Rattle.model.specs.Calls.Rollback.{rollbackError, rollbackMemory}
 use Rattle.model.specs.Calls.Storing.{storeError, storeMemory}
 use Rattle.model.specs.Calls.Format.{formatDisk}
 use Rattle.model.specs.Outcome.{Call, outcome, openCall, startCall, allocateCall, deallocateCall, precommitCall, commitCall, rollbackCall, storeCall, statusCall, crashCall}
-use Rattle.crash_safety.specs.World.{World, begin, made, step, run}
+use Rattle.crash_safety.specs.World.{World, begin, step, run}
 use Rattle.model.proofs.Laws.DiskParts.{opens-parts}
 use Rattle.model.proofs.Laws.Valid.{parts-valid}
 use Rattle.model.proofs.Laws.Opened.{opened-valid, opened-matches}
@@ -32,7 +32,7 @@ use Rattle.crash_safety.proofs.InOrder.Store.{store-consistent}
 
 -- an open puts memory and disk in order
 pub open-uses : (w : World) → Invariant w → InUse (step openCall w)
-unfolding step made outcome openMemory unlessRefused
+unfolding step outcome openMemory unlessRefused
 open-uses w i =
     subst (λ (e : Option Error). Consistent (unlessRefused e (opened (w .disk)) zeroMemory) (w .disk)) (sym (i .opens))
     (record {
@@ -43,13 +43,13 @@ open-uses w i =
 
 -- a store leaves them so
 pub store-uses : (w : World) → Invariant w → InUse w → InUse (step storeCall w)
-unfolding step made outcome
+unfolding step outcome
 store-uses w i c =
     store-consistent (w .memory) (w .disk) (i .related (c .is-valid) .slots) (i .related (c .is-valid) .sam) (i .opens) c
 
 -- and so does every call but a crash
 step-uses : (call : Call) (w : World) → Invariant w → InUse w → (call ≡ crashCall) ⊎ InUse (step call w)
-unfolding step made outcome
+unfolding step outcome
 step-uses openCall w i c = inr (open-uses w i)
 step-uses (startCall s) w i c = inr (start-consistent (w .memory) (w .disk) (i .related (c .is-valid) .slots) c s)
 step-uses (allocateCall s count list) w i c =
@@ -72,7 +72,7 @@ run-uses (call ∷ calls) w n i c =
 
 -- a memory of zeros is refused by every call but open
 zeros-stay : (call : Call) (w : World) → Invariant w → w .memory ≡ zeroMemory → InOrder (step call w)
-unfolding step made outcome startMemory startError allocateMemory allocateError deallocateMemory deallocateError precommitMemory precommitError commitMemory commitError rollbackMemory rollbackError storeMemory storeError memoryInvalid valid blocksInRange first firstOr unlessRefused
+unfolding step outcome startMemory startError allocateMemory allocateError deallocateMemory deallocateError precommitMemory precommitError commitMemory commitError rollbackMemory rollbackError storeMemory storeError memoryInvalid valid blocksInRange first firstOr unlessRefused
 zeros-stay openCall w i e = inr (open-uses w i)
 zeros-stay (startCall s) w i e = inl (ap (λ (m : Memory). startMemory m s) e)
 zeros-stay (allocateCall s count list) w i e = inl (ap (λ (m : Memory). allocateMemory m s count list) e)
@@ -85,7 +85,7 @@ zeros-stay statusCall w i e = inl e
 zeros-stay crashCall w i e = inl refl
 
 step-in-order : (call : Call) (w : World) → Invariant w → InOrder w → InOrder (step call w)
-unfolding step made outcome
+unfolding step outcome
 step-in-order call w i (inl e) = zeros-stay call w i e
 step-in-order call w i (inr c) = ⊎-elim (λ e. inl (ap (λ (x : Call). step x w .memory) e)) inr (step-uses call w i c)
 

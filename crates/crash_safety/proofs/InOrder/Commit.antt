@@ -18,7 +18,7 @@ use Rattle.model.specs.Disk.{diskMatches}
 use Rattle.model.specs.Calls.Committing.{commitError, committing, commitMemory}
 use Rattle.model.proofs.Laws.Valid.{ValidParts, valid-parts, parts-valid}
 use Rattle.model.proofs.Laws.Committed.{committed-valid}
-use Rattle.model.proofs.Laws.Committing.{begun-valid}
+use Rattle.model.proofs.Laws.Pending.{begun-valid}
 use Rattle.crash_safety.specs.InOrder.{Consistent}
 use Rattle.model.proofs.Laws.Accepted.{CommitAccepted, commit-accepted}
 use Rattle.crash_safety.proofs.Commit.{unchanged}

@@ -22,7 +22,7 @@ use Rattle.model.specs.Calls.Storing.{advanced}
 use Rattle.model.proofs.Laws.Writes.{length-writes, words-same}
 use Rattle.model.proofs.Laws.Valid.{ValidParts, parts-valid}
 use Rattle.model.proofs.Laws.Committed.{committed-bitmap, committed-valid}
-use Rattle.model.proofs.Laws.Committing.{CommitParts, commit-parts, precommitted-active, precommitted-below, more-valid}
+use Rattle.model.proofs.Laws.Pending.{CommitParts, commit-parts, precommitted-active, precommitted-below, more-valid}
 use Rattle.model.proofs.Laws.CommitLog.{commit-end, commit-own-log, logged}
 use Rattle.model.proofs.Laws.Matching.{quiet-matches}
 use Rattle.crash_safety.specs.InOrder.{Consistent}

@@ -21,7 +21,7 @@ use Rattle.model.specs.Calls.Storing.{advanced}
 use Rattle.model.proofs.Laws.Writes.{length-writes}
 use Rattle.model.proofs.Laws.Valid.{ValidParts, parts-valid}
 use Rattle.model.proofs.Laws.Touches.{pending-valid}
-use Rattle.model.proofs.Laws.Committing.{recovery-parts, more-valid}
+use Rattle.model.proofs.Laws.Pending.{recovery-parts, more-valid}
 use Rattle.model.proofs.Laws.Matching.{RecoveryMatches, parts-matching}
 use Rattle.model.proofs.Laws.RecoveryLog.{checkpointNext, checkpointed-matches, cleared-matches}
 use Rattle.crash_safety.specs.InOrder.{Consistent}

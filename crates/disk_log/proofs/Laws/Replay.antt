@@ -10,7 +10,8 @@ use Rattle.bitmap.specs.Sizes.{maxBlocks, bitmapWords}
 use Rattle.model.specs.Sizes.{diskWords, logAt}
 use Rattle.model.specs.Stores.{_≔_, writes}
 use Rattle.model.specs.Disk.{diskBlocks, logLength, logEntries, logValid}
-use Rattle.model.proofs.Laws.Entries.{Places, places-drop, valid-places}
+use Rattle.model.proofs.Laws.Places.{Places, places-drop}
+use Rattle.model.proofs.Laws.Entries.{valid-places}
 use Rattle.model.proofs.Laws.DiskParts.{valid-log-length, valid-log-entries}
 use Rattle.disk_log.proofs.Laws.Log.{entry-at, entries-count}
 

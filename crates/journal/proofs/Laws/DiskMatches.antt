@@ -16,7 +16,8 @@ use Rattle.model.specs.Valid.{sameWords}
 use Rattle.model.specs.Disk.{diskBitmap, diskMatches}
 use Rattle.model.specs.Stores.{changedFor}
 use Rattle.model.proofs.Laws.Writes.{words-same}
-use Rattle.model.proofs.Laws.Entries.{changes-length, changed-stores}
+use Rattle.model.proofs.Laws.StoreLists.{changed-stores}
+use Rattle.model.proofs.Laws.Changes.{changes-length}
 use Rattle.journal.specs.Matching.{headIs, wordsMatch, lengthAfter, checkpointedAfter}
 use Rattle.disk_log.proofs.Laws.Tests.{and-left, and-right, and-none}
 use Rattle.model.proofs.Laws.Shape.{Shaped}

@@ -13,7 +13,8 @@ use Rattle.model.specs.Sizes.{logAt}
 use Rattle.model.specs.Stores.{Store, writes, logStores}
 use Rattle.model.specs.Valid.{sameWords}
 use Rattle.model.proofs.Laws.Writes.{words-same}
-use Rattle.model.proofs.Laws.Entries.{logStores-from, writes-shift, take-map, shift}
+use Rattle.model.proofs.Laws.Places.{writes-shift, shift}
+use Rattle.model.proofs.Laws.StoreLists.{logStores-from, take-map}
 use Rattle.journal.specs.Matching.{entryWritten}
 use Rattle.disk_log.proofs.Laws.Tests.{and-right, and-assoc, leb-same}
 

@@ -15,7 +15,8 @@ use Rattle.model.specs.Stores.{Store, _≔_, writes, changesFrom, changes, logS
 use Rattle.model.specs.Valid.{sameWords}
 use Rattle.model.specs.Disk.{lengthIn, diskBlocks, logLength, diskBitmap, diskOf}
 use Rattle.model.proofs.Laws.Writes.{length-writes}
-use Rattle.model.proofs.Laws.Entries.{length-logStores, changes-length}
+use Rattle.model.proofs.Laws.StoreLists.{length-logStores}
+use Rattle.model.proofs.Laws.Changes.{changes-length}
 use Rattle.model.proofs.Laws.DiskParts.{disk-parts, disk-bitmap-length, disk-log-length}
 use Rattle.model.proofs.Laws.CommitLog.{CommitFrom, changes-from, commitDisk, commit-before, commit-after}
 use Rattle.journal.specs.Matching.{entryWritten, checkpointedWord, wordMatches, wordsMatch, lengthAfter, checkpointedAfter}

@@ -20,7 +20,7 @@ use Rattle.model.proofs.Laws.Writes.{and-first, words-same}
 use Rattle.model.proofs.Laws.Entries.{noBits-cons}
 use Rattle.model.proofs.Laws.Valid.{ValidParts, valid-parts, allSlots-at}
 use Rattle.model.proofs.Laws.Shape.{Shaped, slot-read}
-use Rattle.model.proofs.Laws.Committing.{commit-parts, precommitted-below, recovery-parts}
+use Rattle.model.proofs.Laws.Pending.{commit-parts, precommitted-below, recovery-parts}
 
 -- ---- the SAM of a commit
 

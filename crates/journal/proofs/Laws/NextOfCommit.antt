@@ -10,7 +10,7 @@ use borrow.Author.Tests.{eq-eqb, ne-eqb}
 use Rattle.bitmap.specs.Sizes.{bitmapWords}
 use Rattle.model.specs.Sizes.{lengthAt, bitmapAt, logAt}
 use Rattle.model.specs.Stores.{_≔_, changes, commitStores}
-use Rattle.model.proofs.Laws.Entries.{changes-length}
+use Rattle.model.proofs.Laws.Changes.{changes-length}
 use Rattle.journal.specs.Next.{IsChange, IsNext}
 use Rattle.journal.proofs.Laws.NextStore.{next-log, next-point, next-word, next-last}
 

@@ -11,7 +11,7 @@ use lib.Dec.{eqb}
 use Rattle.model.specs.Sizes.{diskWords, lengthAt, bitmapAt, logAt}
 use Rattle.model.specs.Stores.{Store, _≔_, logStores, onDisk, checkpointWith, journalWith, checkpointStores, commitStores}
 use Rattle.model.specs.Disk.{diskBlocks, logLength, logEntries, logValid}
-use Rattle.model.proofs.Laws.Entries.{length-logStores}
+use Rattle.model.proofs.Laws.StoreLists.{length-logStores}
 use Rattle.journal.specs.Next.{IsNext}
 use Rattle.disk_log.proofs.Laws.Log.{entry-at, entries-count}
 use Rattle.disk_log.proofs.Laws.Replay.{entries-few, place-below}

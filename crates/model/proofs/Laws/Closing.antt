@@ -15,7 +15,8 @@ use Rattle.model.specs.Sizes.{lengthAt, logAt, logWords, logEnd}
 use Rattle.model.specs.Stores.{Store, writes, closingStores}
 use Rattle.model.specs.Disk.{lengthIn, diskOf, entriesIn, entriesValid, durable}
 use Rattle.model.specs.Calls.Opening.{openError}
-use Rattle.model.proofs.Laws.Entries.{set-append-add, entries-take}
+use Rattle.model.proofs.Laws.Places.{set-append-add}
+use Rattle.model.proofs.Laws.Entries.{entries-take}
 use Rattle.model.proofs.Laws.DiskParts.{none-told, diskOf-durable, diskOf-opens}
 
 abbrev pub ClosingStore : Store → Type 0

@@ -17,7 +17,10 @@ use Rattle.model.specs.Stores.{Store, _≔_, writes, after, changes, log
 use Rattle.model.specs.Disk.{lengthIn, diskOf, entriesIn, entriesValid, durable}
 use Rattle.model.specs.Calls.Opening.{openError}
 use Rattle.model.proofs.Laws.Writes.{writes-append, length-writes, writes-take-again, writes-twice}
-use Rattle.model.proofs.Laws.Entries.{Places, places-take, changes-places, changes-length, length-logStores, take-checkpoint, writes-log, writes-log-all, entries-logged, writes-noBits, writes-take-noBits}
+use Rattle.model.proofs.Laws.Places.{Places, places-take}
+use Rattle.model.proofs.Laws.StoreLists.{length-logStores, take-checkpoint, writes-log, writes-log-all}
+use Rattle.model.proofs.Laws.Entries.{entries-logged, writes-noBits, writes-take-noBits}
+use Rattle.model.proofs.Laws.Changes.{changes-places, changes-length}
 use Rattle.model.proofs.Laws.DiskParts.{none-told, diskOf-log, diskOf-durable, diskOf-quiet, diskOf-opens, quiet-opens, writes-onDisk}
 use Rattle.model.proofs.Laws.Closing.{Closing, closing-take, Closed, closed, closed-durable, closed-opens}
 

@@ -19,7 +19,7 @@ use Rattle.model.specs.Causes.{diskLengthWrong, diskBlocksWrong, diskBit
 use Rattle.model.specs.Calls.Opening.{openError}
 use Rattle.model.proofs.Laws.First.{first-none, none-first}
 use Rattle.model.proofs.Laws.Writes.{and-both, and-first, and-second}
-use Rattle.model.proofs.Laws.Entries.{Places, writes-shift, writes-append-left}
+use Rattle.model.proofs.Laws.Places.{Places, writes-shift, writes-append-left}
 
 -- a disk that opens: none of the causes 2 to 5 holds
 pub record Opens (disk : List ℕ) : Type 0 where

@@ -12,7 +12,8 @@ use Rattle.model.specs.Sizes.{logAt, logWords}
 use Rattle.model.specs.Disk.{diskBlocks, logLength, diskBitmap, logEntries, durable, entriesAgree}
 use Rattle.model.specs.Calls.Opening.{openError}
 use Rattle.model.proofs.Laws.Writes.{length-writes}
-use Rattle.model.proofs.Laws.Entries.{Places, valid-places, length-entriesIn, entries-agree, writes-noBits}
+use Rattle.model.proofs.Laws.Places.{Places}
+use Rattle.model.proofs.Laws.Entries.{valid-places, length-entriesIn, entries-agree, writes-noBits}
 use Rattle.model.proofs.Laws.DiskParts.{Opens, opens-parts, disk-bitmap-length, disk-log-length}
 
 module _ (disk : List ℕ) (opens : openError disk ≡ none) where

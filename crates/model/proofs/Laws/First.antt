@@ -71,8 +71,3 @@ none-append [] ys e = refl
 none-append (x ∷ xs) ys e =
     let n = none-holds (x .holds) (x .error) xs e in
     cause-passed (x .holds) (x .error) (xs ++ ys) (n .0) ∙ none-append xs ys (n .1)
-
--- where no cause of the whole list holds, none of the rest does
-pub none-rest : (xs ys : List Cause) → first (xs ++ ys) ≡ none → first ys ≡ none
-none-rest [] ys e = e
-none-rest (x ∷ xs) ys e = none-rest xs ys (none-holds (x .holds) (x .error) (xs ++ ys) e .1)

@@ -18,12 +18,12 @@ use Rattle.model.specs.Valid.{allSlots, slotValid, touches, touchesAgree
 use Rattle.model.specs.Disk.{diskBlocks, wordOne, logLength, diskBitmap, diskOf, entriesIn, logEntries, durable, recoveryMatches, diskMatches}
 use Rattle.model.specs.Calls.Opening.{openError, recoveryDue, recoveryPending, opened}
 use Rattle.model.proofs.Laws.Writes.{and-both, words-same}
-use Rattle.model.proofs.Laws.Entries.{length-checkpointWith}
+use Rattle.model.proofs.Laws.StoreLists.{length-checkpointWith}
 use Rattle.model.proofs.Laws.DiskParts.{Opens, opens-parts, disk-parts, log-valid, told-none}
 use Rattle.model.proofs.Laws.Valid.{ValidParts, idle-valid}
 use Rattle.model.proofs.Laws.Touches.{one, xor-self}
 use Rattle.model.proofs.Laws.Matching.{quiet-matches, parts-matching}
-use Rattle.model.proofs.Laws.Committing.{parts-recovery}
+use Rattle.model.proofs.Laws.Pending.{parts-recovery}
 use Rattle.model.proofs.Laws.Durable.{entries-length, durable-length, durable-noBits, durable-agrees}
 
 all-idle : (blocks n : ℕ) → allSlots (slotValid blocks) (replicate n idleSlot) ≡ true

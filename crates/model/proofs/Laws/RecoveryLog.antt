@@ -17,7 +17,9 @@ use Rattle.model.specs.Valid.{sameWords}
 use Rattle.model.specs.Disk.{diskBlocks, wordOne, logLength, diskBitmap, diskOf, entriesIn, logEntries, entriesValid, entriesAgree, durable, baseImage}
 use Rattle.model.specs.Calls.Opening.{openError}
 use Rattle.model.proofs.Laws.Writes.{writes-append, writes-again, length-writes}
-use Rattle.model.proofs.Laws.Entries.{places-take, places-drop, valid-take, valid-drop, writes-noBits-from, take-map, drop-map, writes-agreeing}
+use Rattle.model.proofs.Laws.Places.{places-take, places-drop}
+use Rattle.model.proofs.Laws.StoreLists.{take-map, drop-map}
+use Rattle.model.proofs.Laws.Entries.{valid-take, valid-drop, writes-noBits-from, writes-agreeing}
 use Rattle.model.proofs.Laws.DiskParts.{Opens, opens-parts, diskOf-bitmap, diskOf-entries, diskOf-durable, disk-parts, writes-onDisk, diskOf-opens, log-valid}
 use Rattle.model.proofs.Laws.Closing.{Closing, closing-take, closing-drop, Closed, closed, closed-durable, closed-opens}
 use Rattle.model.proofs.Laws.Matching.{RecoveryMatches, quiet-matches}

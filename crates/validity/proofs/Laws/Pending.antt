@@ -25,7 +25,7 @@ use Rattle.model.specs.Valid.{sameWords, allSlots, isQuiet, pendingValid}
 use Rattle.validity.specs.Pending.{changedWords, commitValid}
 use Rattle.validity.proofs.Laws.Slots.{both, and-both, not-true-false, allSlots-at, allSlots-all}
 use Rattle.model.proofs.Laws.Shape.{Shaped}
-use Rattle.model.proofs.Laws.Committing.{commit-due as due-is}
+use Rattle.model.proofs.Laws.Pending.{commit-due as due-is}
 
 -- ---- a commit's test
 

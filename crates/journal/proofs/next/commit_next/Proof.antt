@@ -3,7 +3,7 @@ use Prim.Native.Nat.{_+_, _-_, _*_}
 use native.Mathlib.Omega.{arith}
 use denote.Ref.{now}
 use borrow.Author.Needs.{needs}
-use Rattle.model.proofs.Laws.Entries.{changes-length}
+use Rattle.model.proofs.Laws.Changes.{changes-length}
 use Rattle.journal.proofs.Laws.NextOfCommit.{point-next, last-next, word-next}
 use Rattle.journal.proofs.next.commit_next.Statement.{statement}
 use Rattle.journal.proofs.next.commit_next.Tie as tie

@@ -16,7 +16,7 @@ use Rattle.model.specs.Commit.{committedSam, entriesOf, changedOf, commi
 use Rattle.model.specs.Pending.{storesDone, storesDue, oneMoreDone}
 use Rattle.model.specs.Valid.{isQuiet, pendingValid}
 use Rattle.model.proofs.Laws.Writes.{and-both, and-first, and-second}
-use Rattle.model.proofs.Laws.Entries.{length-commitStores}
+use Rattle.model.proofs.Laws.StoreLists.{length-commitStores}
 use Rattle.model.proofs.Laws.Valid.{ValidParts}
 use Rattle.model.proofs.Laws.Touches.{pending-valid}
 
