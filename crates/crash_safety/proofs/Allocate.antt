@@ -24,7 +24,7 @@ use Rattle.model.proofs.Laws.Numbers.{grant-number}
 use Rattle.model.proofs.Laws.Accepted.{Ready, allocate-accepted}
 use Rattle.model.proofs.Laws.Valid.{ValidParts, valid-parts, slot-below, touches-at, touches-one, touchesBlock}
 use Rattle.model.proofs.Laws.Taking.{Available, AllAvailable, lowest-available}
-use Rattle.crash_safety.specs.Ledger.{enterAll, Sets, Ledger, setsOf, withSets, holders, entered, takes}
+use Rattle.crash_safety.specs.Ledger.{enterAll, Sets, Ledger, withTaken, setsOf, withSets, holders, entered, takes}
 use Rattle.crash_safety.specs.World.{World, worldOf, events, step}
 use Rattle.crash_safety.proofs.Holders.{one, one-le, takers-none}
 use Rattle.crash_safety.proofs.Invariant.{Tied, Plain, Invariant}
@@ -53,7 +53,7 @@ module _ (sam : ℕ → Bool) (slot new : Slot) (sets : Sets) (blocks : List ℕ
       ∙ sym (ap (λ (t : Bool). t && false) (free b e))
   frees-none b false e = active-freed sam slot sets tie active b
 
-  taken-tie : Tied sam new (record { taken = sets .taken ++ blocks; freed = sets .freed })
+  taken-tie : Tied sam new (withTaken sets (sets .taken ++ blocks))
   taken-tie =
       record {
         taken = λ b.
@@ -118,7 +118,7 @@ one-taker ledger s b blocks h k none-held = go (member b blocks) refl
     before = member b (setsOf ledger s .taken)
 
     own : Sets
-    own = record { taken = setsOf ledger s .taken ++ blocks; freed = setsOf ledger s .freed }
+    own = withTaken (setsOf ledger s) (setsOf ledger s .taken ++ blocks)
 
     change : holders (withSets ledger s own) b + one before ≡ holders ledger b + one (before || member b blocks)
     change = holders-set ledger s b own h ∙ ap (λ (t : Bool). holders ledger b + one t) (member-append b (setsOf ledger s .taken) blocks)
@@ -148,7 +148,7 @@ pub grant-keeps : (w : World) (s : ℕ) (blocks : List ℕ)
 unfolding taking takes
 grant-keeps w s blocks i ready active all =
     touching w s i ready new (volumeBitmap (w .memory) (λ b. member b blocks || comBit (w .memory) b))
-    (record { taken = setsOf (w .ledger) s .taken ++ blocks; freed = setsOf (w .ledger) s .freed })
+    (withTaken (setsOf (w .ledger) s) (setsOf (w .ledger) s .taken ++ blocks))
     (taken-tie (samBit (w .memory)) slot new (setsOf (w .ledger) s) blocks active refl
     (volume-bit (w .memory .blocks) (λ b. member b blocks || tamBit slot b) (parts .few-blocks) (none-from (w .memory) s blocks all parts))
     (λ b m. all b m .free)

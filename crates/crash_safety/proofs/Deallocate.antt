@@ -18,7 +18,7 @@ use Rattle.model.specs.Outcome.{outcome, deallocateCall}
 use Rattle.model.proofs.Laws.Numbers.{done-number}
 use Rattle.model.proofs.Laws.Accepted.{deallocate-accepted}
 use Rattle.model.proofs.Laws.Valid.{ValidParts, valid-parts, slot-below}
-use Rattle.crash_safety.specs.Ledger.{enterAll, Sets, Ledger, setsOf, withSets, holders, entered, frees}
+use Rattle.crash_safety.specs.Ledger.{enterAll, Sets, Ledger, withFreed, setsOf, withSets, holders, entered, frees}
 use Rattle.crash_safety.specs.World.{World, events, step}
 use Rattle.crash_safety.proofs.Invariant.{Tied, Invariant}
 use Rattle.crash_safety.proofs.Refused.{memory-keeps}
@@ -45,7 +45,7 @@ module _ (sam : ℕ → Bool) (slot new : Slot) (sets : Sets) (block : ℕ)
       active-taken sam slot sets tie active b ∙ ap (λ (t : Bool). tamBit slot b && not t) at ∙ and-false (tamBit slot b)
   keeps b false e = active-taken sam slot sets tie active b
 
-  freed-tie : Tied sam new (record { taken = sets .taken; freed = sets .freed ++ (block ∷ []) })
+  freed-tie : Tied sam new (withFreed sets (sets .freed ++ (block ∷ [])))
   unfolding member
   freed-tie =
       record {
@@ -61,8 +61,8 @@ module _ (sam : ℕ → Bool) (slot new : Slot) (sets : Sets) (block : ℕ)
 same-holders : (ledger : Ledger) (s b : ℕ) (freed : List ℕ)
     → s < length (ledger .slots)
     → holders ledger b ≤ 1
-    → holders (withSets ledger s (record { taken = setsOf ledger s .taken; freed = freed })) b ≤ 1
-same-holders ledger s b freed h k = omega (arith, holders-set ledger s b (record { taken = setsOf ledger s .taken; freed = freed }) h)
+    → holders (withSets ledger s (withFreed (setsOf ledger s) freed)) b ≤ 1
+same-holders ledger s b freed h k = omega (arith, holders-set ledger s b (withFreed (setsOf ledger s) freed) h)
 
 none-from : (memory : Memory) (s block : ℕ) → ValidParts memory → (b : ℕ) → memory .blocks ≤ b → (not (eqb b block) && tamBit (slotAt memory s) b) ≡ false
 none-from memory s block parts b h =
@@ -81,7 +81,7 @@ deallocate-keeps w s block i =
     let freed : List ℕ = setsOf (w .ledger) s .freed ++ (block ∷ []) in
     touching w s i (a .ready) new
     (volumeBitmap (w .memory) (λ b. not (eqb b block) && comBit (w .memory) b))
-    (record { taken = setsOf (w .ledger) s .taken; freed = freed })
+    (withFreed (setsOf (w .ledger) s) freed)
     (freed-tie (samBit (w .memory)) slot new (setsOf (w .ledger) s) block (a .active) refl
     (volume-bit (w .memory .blocks) (λ b. not (eqb b block) && tamBit slot b) (parts .few-blocks) (none-from (w .memory) s block parts))
     (a .allocated)

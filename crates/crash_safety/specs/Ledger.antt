@@ -41,6 +41,12 @@ pub record Ledger : Type 0 where
 abbrev pub noSets : Sets
 noSets = record { taken = []; freed = [] }
 
+abbrev pub withTaken : Sets → List ℕ → Sets
+withTaken sets taken = record { taken = taken; freed = sets .freed }
+
+abbrev pub withFreed : Sets → List ℕ → Sets
+withFreed sets freed = record { taken = sets .taken; freed = freed }
+
 abbrev pub setsOf : Ledger → ℕ → Sets
 setsOf ledger s = getD (ledger .slots) s noSets
 
@@ -85,11 +91,11 @@ without (b ∷ blocks) gone = cond (member b gone) (without blocks gone) (b ∷ 
 
 -- "Allocate: the numbers listed join the seat's taken."
 unfoldable pub takes : Ledger → ℕ → List ℕ → Ledger
-takes ledger s listed = withSets ledger s (record { taken = setsOf ledger s .taken ++ listed; freed = setsOf ledger s .freed })
+takes ledger s listed = withSets ledger s (withTaken (setsOf ledger s) (setsOf ledger s .taken ++ listed))
 
 -- "Deallocate: the block joins its given back."
 unfoldable pub frees : Ledger → ℕ → ℕ → Ledger
-frees ledger s block = withSets ledger s (record { taken = setsOf ledger s .taken; freed = setsOf ledger s .freed ++ (block ∷ []) })
+frees ledger s block = withSets ledger s (withFreed (setsOf ledger s) (setsOf ledger s .freed ++ (block ∷ [])))
 
 -- "Commit: If d is 0, nothing alters; else the seat is under count, at 0."
 unfoldable pub counts : Ledger → ℕ → Ledger
