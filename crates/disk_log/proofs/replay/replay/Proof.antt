@@ -5,7 +5,7 @@ use denote.Ref.{now}
 use lib.ListN.{length}
 use borrow.Author.Needs.{needs}
 use Rattle.model.specs.Stores.{writes}
-use Rattle.model.specs.Disk.{logEntries, durable}
+use Rattle.model.specs.Disk.{durable}
 use Rattle.model.proofs.Laws.DiskParts.{disk-bitmap-length}
 use Rattle.disk_log.proofs.replay.replay.Statement.{statement}
 use Rattle.disk_log.proofs.replay.replay.Tie as tie
@@ -22,9 +22,7 @@ rewrite-requires c κs =
 
 returns : tie.Need-returns
 unfolding durable
-returns c =
-    let start = c .before .before .before .before in
-    c .rewrite .ensures ∙ ap (writes (logEntries (now (start .args .disk)))) (c .before .before .bitmap .ensures)
+returns c = c .rewrite .ensures ∙ ap (writes _) (c .before .before .bitmap .ensures)
 
 pub replay-spec : {M : Type 1} → statement M
 replay-spec = tie.close (tie.spec bitmap-requires rewrite-requires returns)

@@ -4,7 +4,6 @@ use native.Mathlib.Omega.{arith}
 use denote.Ref.{now}
 use borrow.Author.Needs.{needs}
 use Rattle.bitmap.specs.Bits.{noBitsFrom}
-use Rattle.model.specs.Disk.{diskBlocks}
 use Rattle.disk_log.proofs.Laws.Sam.{bitmap-is}
 use Rattle.disk_log.proofs.sam.bitmap_valid.Statement.{statement}
 use Rattle.disk_log.proofs.sam.bitmap_valid.Tie as tie
@@ -17,16 +16,15 @@ bitmap-requires c κs = search needs
 
 no-bits-from-requires : tie.Need-no-bits-from-requires
 no-bits-from-requires c κs =
-    let start = c .before .before .before .before in (
+    let known = c .before .before .before in
+    let start = known .before in (
       rw (c .before .bitmap .ensures)
-          (bitmap-is (now (start .args .disk)) (start .pre .0) (λ i. omega (arith, c .before .before .before .shared-slice-known .given i))),
+          (bitmap-is (now (start .args .disk)) (start .pre .0) (λ i. omega (arith, known .shared-slice-known .given i))),
       start .pre .1,
     )
 
 returns : tie.Need-returns
-returns c =
-    let start = c .before .before .before .before .before in
-    c .no-bits-from .ensures ∙ ap (noBitsFrom (diskBlocks (now (start .args .disk)))) (c .before .before .bitmap .ensures)
+returns c = c .no-bits-from .ensures ∙ ap (noBitsFrom _) (c .before .before .bitmap .ensures)
 
 pub bitmap-valid-spec : {M : Type 1} → statement M
 bitmap-valid-spec =
