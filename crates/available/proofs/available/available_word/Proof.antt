@@ -1,5 +1,5 @@
 -- `available::available::available_word` meets its contract: of the last word it keeps the bits below the volume's end, of the words before all.
-use Prim.Native.Nat.{_*_, _-_}
+use Prim.Native.Nat.{ℕ, _*_, _-_}
 use native.Mathlib.Omega.{arith}
 use lib.Pow.{pow-pos}
 use Rattle.bitops.proofs.Laws.Block.{shift-one}
@@ -7,6 +7,10 @@ use Rattle.available.proofs.Laws.Available.{available-part, available-w
 use borrow.Author.Needs.{needs}
 use Rattle.available.proofs.available.available_word.Statement.{statement}
 use Rattle.available.proofs.available.available_word.Tie as tie
+
+-- the volume's blocks from the word on
+abbrev left-at : tie.After-free2 → ℕ
+left-at c = let a = c .before .before .args in a .blocks - a .k * 32
 
 mul-free : tie.Need-mul-free
 mul-free c = search needs
@@ -33,20 +37,13 @@ shl-result : tie.Need-shl-result
 shl-result c = search needs
 
 sub-result : tie.Need-sub-result
-sub-result c =
-    let a = c .before .before .before .args in
-    let left = a .blocks - a .k * 32 in
-    omega (arith, shift-one left (c .if1 .taken), pow-pos left)
+sub-result c = let left = left-at (c .before) in omega (arith, shift-one left (c .if1 .taken), pow-pos left)
 
 returns : tie.Need-returns
-returns c =
-    let a = c .before .before .before .args in
-    available-part (a .blocks) (a .sam .now) (a .«com» .now) (a .k) (a .blocks - a .k * 32) (omega arith) (c .if1 .taken)
+returns c = available-part _ _ _ _ (left-at (c .before)) (omega arith) (c .if1 .taken)
 
 returns-2 : tie.Need-returns-2
-returns-2 c =
-    let a = c .before .before .before .args in
-    available-whole (a .blocks) (a .sam .now) (a .«com» .now) (a .k) (a .blocks - a .k * 32) (omega arith) (c .if1 .left)
+returns-2 c = available-whole _ _ _ _ (left-at (c .before)) (omega arith) (c .if1 .left)
 
 pub available-word-spec : {M : Type 1} → statement M
 available-word-spec =
