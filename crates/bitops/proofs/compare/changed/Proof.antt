@@ -20,6 +20,15 @@ Inv-loop old new count₀ k₀ count k =
 abbrev μ-loop : tie.MeasureT-loop
 μ-loop old new count₀ k₀ count k = bitmapWords - k
 
+abbrev at-loop : tie.After-differs Inv-loop μ-loop → tie.At-loop Inv-loop μ-loop
+at-loop c = c .before .before .before .before
+
+-- a word counts once at most
+once : (c : tie.After-differs Inv-loop μ-loop) → c .differs .result ≤ 1
+once c =
+    let a = at-loop c .before .args in
+    omega (arith, c .differs .ensures, one-at-most (eqb (getD (a .old .now) (at-loop c .loop .k) 0) (getD (a .new .now) (at-loop c .loop .k) 0)))
+
 loop-holds : tie.Need-loop-holds Inv-loop μ-loop
 loop-holds c = (search needs, search needs, omega arith)
 
@@ -39,11 +48,7 @@ differs-requires : tie.Need-differs-requires Inv-loop μ-loop
 differs-requires c κs = search needs
 
 add-count : tie.Need-add-count Inv-loop μ-loop
-add-count c =
-    let at-loop = c .before .before .before .before in
-    let a = at-loop .before .args in
-    let k = at-loop .loop .k in
-    omega (arith, c .differs .ensures, one-at-most (eqb (getD (a .old .now) k 0) (getD (a .new .now) k 0)))
+add-count c = omega (arith, once c)
 
 add-k : tie.Need-add-k Inv-loop μ-loop
 add-k c = search needs
@@ -53,20 +58,15 @@ loop-less c = search needs
 
 loop-again : tie.Need-loop-again Inv-loop μ-loop
 loop-again c =
-    let at-turn = c .before .before .before in
-    let at-loop = at-turn .before in
-    let a = at-loop .before .args in
-    let k = at-loop .loop .k in (
-      search needs,
-      omega (arith, c .differs .ensures, one-at-most (eqb (getD (a .old .now) k 0) (getD (a .new .now) k 0))),
-      omega (arith, at-loop .loop .inv .2, c .differs .ensures, changes-step (a .old .now) (a .new .now) k (omega arith) (omega arith)),
-    )
+    let a = at-loop c .before .args in
+    let step = changes-step (a .old .now) (a .new .now) (at-loop c .loop .k) (omega arith) (omega arith) in
+    (search needs, omega (arith, once c), omega (arith, at-loop c .loop .inv .2, c .differs .ensures, step))
 
 returns : tie.Need-returns Inv-loop μ-loop
 returns c =
-    let at-loop = c .before in
-    let a = at-loop .before .args in
-    omega (arith, at-loop .loop .inv .2, changes-end (a .old .now) (a .new .now) (at-loop .loop .k) (omega arith))
+    let at = c .before in
+    let a = at .before .args in
+    omega (arith, at .loop .inv .2, changes-end (a .old .now) (a .new .now) (at .loop .k) (omega arith))
 
 pub changed-spec : {M : Type 1} → statement M
 changed-spec =

@@ -11,6 +11,13 @@ use borrow.Author.Needs.{needs}
 use Rattle.bitops.proofs.compare.no_bits_from.Statement.{statement}
 use Rattle.bitops.proofs.compare.no_bits_from.Tie as tie
 
+abbrev start : tie.After-word → tie.Start
+start c = c .before .before
+
+-- whether the words after the one with bits on both sides are 0
+abbrev after : tie.After-word → Bool
+after c = let a = start c .args in noBitsFrom 0 (drop (a .blocks / 32 + 1) (a .words .now))
+
 cast-place : tie.Need-cast-place
 cast-place c = search needs
 
@@ -30,11 +37,7 @@ shr-if2 c = search needs
 
 returns-2 : tie.Need-returns-2
 returns-2 c =
-    let at-start = c .before .before .before in
-    let a = at-start .args in
-    sym
-    (noBits-words (a .blocks) (a .words .now) (at-start .pre .0 .small) (omega arith)
-    ∙ ap (λ (t : Bool). t && noBitsFrom 0 (drop (a .blocks / 32 + 1) (a .words .now))) (ne-eqb _ 0 (c .if2 .taken)))
+    sym (noBits-words _ _ (start (c .before) .pre .0 .small) (omega arith) ∙ ap (λ (t : Bool). t && after (c .before)) (ne-eqb _ 0 (c .if2 .taken)))
 
 add-zero-from : tie.Need-add-zero-from
 add-zero-from c = search needs
@@ -44,12 +47,9 @@ zero-from-requires c κs = search needs
 
 returns-3 : tie.Need-returns-3
 returns-3 c =
-    let at-start = c .before .before .before .before in
-    let a = at-start .args in
+    let at = c .before .before in
     c .zero-from .ensures
-    ∙ sym
-    (noBits-words (a .blocks) (a .words .now) (at-start .pre .0 .small) (omega arith)
-    ∙ ap (λ (t : Bool). t && noBitsFrom 0 (drop (a .blocks / 32 + 1) (a .words .now))) (eq-eqb _ 0 (c .before .if2 .left)))
+    ∙ sym (noBits-words _ _ (start at .pre .0 .small) (omega arith) ∙ ap (λ (t : Bool). t && after at) (eq-eqb _ 0 (c .before .if2 .left)))
 
 pub no-bits-from-spec : {M : Type 1} → statement M
 no-bits-from-spec =
