@@ -23,6 +23,13 @@ Inv-loop input₀ line₀ out₀ at fixture₀ reader₀ end₀ number₀ input 
 abbrev μ-loop : tie.MeasureT-loop
 μ-loop input₀ line₀ out₀ at fixture₀ reader₀ end₀ number₀ input line out fixture reader end number = maxLines + 1 - number
 
+-- where a line was read, and the turn that it is
+abbrev read : tie.After-answer-arg Inv-loop μ-loop → tie.After-next-line Inv-loop μ-loop
+read c = c .before .before .before .before .before .before .before
+
+abbrev turn : tie.After-next-line Inv-loop μ-loop → tie.In-loop Inv-loop μ-loop
+turn c = c .before .before .before
+
 new-requires : tie.Need-new-requires Inv-loop μ-loop
 new-requires c κs = search needs
 
@@ -52,11 +59,9 @@ slice-reshare-prefix-answer c = search needs
 
 slice-aggregate-answer : tie.Need-slice-aggregate-answer Inv-loop μ-loop
 slice-aggregate-answer c =
-    let n = c .before .before .before .before .before .before .before .next-line in
-    let i = c .before .before .before .before .before .before .before .before .before .before .before .loop .inv in
-    let last = n .last .1 in
+    let n = read c .next-line in
     let same = n .kept .1 in
-    sym (length-take-le (n .result .len) (last .1 .0) (omega (arith, n .ensures .line, same .1 .0, i .1)))
+    sym (length-take-le _ _ (omega (arith, n .ensures .line, same .1 .0, turn (read c) .before .loop .inv .1)))
 
 answer-requires : tie.Need-answer-requires Inv-loop μ-loop
 answer-requires c κs = search needs
@@ -70,17 +75,16 @@ loop-less c = search needs
 loop-again : tie.Need-loop-again Inv-loop μ-loop
 loop-again c =
     let answered = c .before .before .before in
-    let read = answered .before .before .before .before .before .before .before .before .before in
-    let turn = read .before .before .before in
-    let i = turn .before .loop .inv in
-    let n = read .next-line in
+    let at = read (answered .before .before) in
+    let i = turn at .before .loop .inv in
+    let n = at .next-line in
     let same = n .kept .1 in (
       omega (arith, i .0, n .kept .0),
       omega (arith, i .1, same .1 .0),
       answered .answer .ensures .1,
       answered .answer .ensures .0,
       n .ensures,
-      omega (arith, turn .loop-test .taken),
+      omega (arith, turn at .loop-test .taken),
     )
 
 same-length-4 : tie.Need-same-length-4 Inv-loop μ-loop

@@ -6,24 +6,20 @@ use borrow.Author.Needs.{needs}
 use Rattle.inspect_run.proofs.call.call.Statement.{statement}
 use Rattle.inspect_run.proofs.call.call.Tie as tie
 
-fixture-parts : (s : tie.Start) → Parts (s .args .fixture)
-fixture-parts s = parts _ (s .good .1 .0) (s .pre)
+fixture-parts : (c : tie.After-list) → Parts (c .before .before .args .fixture)
+fixture-parts c = let start = c .before .before in parts _ (start .good .1 .0) (start .pre)
 
 array-borrow-prefix-disk : tie.Need-array-borrow-prefix-disk
-array-borrow-prefix-disk c = fixture-parts (c .before .before) .disk
+array-borrow-prefix-disk c = fixture-parts c .disk
 
 slice-aggregate-any-call : tie.Need-slice-aggregate-any-call
-slice-aggregate-any-call c =
-    let s = c .before .before .before in
-    sym (length-take-le (s .args .fixture .length) (s .args .fixture .disk) (fixture-parts s .disk))
+slice-aggregate-any-call c = sym (length-take-le _ _ (fixture-parts (c .before) .disk))
 
 array-borrow-prefix-list : tie.Need-array-borrow-prefix-list
-array-borrow-prefix-list c = fixture-parts (c .before .before .before) .list
+array-borrow-prefix-list c = fixture-parts (c .before) .list
 
 slice-aggregate-any-call-2 : tie.Need-slice-aggregate-any-call-2
-slice-aggregate-any-call-2 c =
-    let s = c .before .before .before .before in
-    sym (length-take-le (s .args .fixture .places) (s .args .fixture .list) (fixture-parts s .list))
+slice-aggregate-any-call-2 c = sym (length-take-le _ _ (fixture-parts (c .before .before) .list))
 
 any-call-requires : tie.Need-any-call-requires
 any-call-requires c κs = search needs

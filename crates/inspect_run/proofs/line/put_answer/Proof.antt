@@ -17,14 +17,14 @@ same-length c = search needs
 returns : tie.Need-returns
 returns c =
     let p = c .before .before in
-    let s = p .before .before .before .before .before .args in
+    let a = p .before .before .before .before .before .args in
     record {
       size = search needs;
       within =
           omega (
             arith,
             p .print-answer .ensures .nextIs,
-            answer-length (s .number) (s .answer) (s .value),
+            answer-length (a .number) (a .answer) (a .value),
             p .before .before .place .ensures,
           );
     }

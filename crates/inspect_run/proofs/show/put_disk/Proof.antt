@@ -6,10 +6,11 @@ use borrow.Author.Needs.{needs}
 use Rattle.inspect_run.proofs.show.put_disk.Statement.{statement}
 use Rattle.inspect_run.proofs.show.put_disk.Tie as tie
 
-fixture-parts : (s : tie.Start) → Parts (s .args .fixture)
-fixture-parts s =
-    let good = s .good .1 in
-    parts _ (good .1 .0) (s .pre .1)
+abbrev start : tie.After-put-words-arg → tie.Start
+start c = c .before .before .before .before .before .before .before .before
+
+fixture-parts : (c : tie.After-put-words-arg) → Parts (start c .args .fixture)
+fixture-parts c = let good = start c .good .1 in parts _ (good .1 .0) (start c .pre .1)
 
 slice-aggregate-put-field : tie.Need-slice-aggregate-put-field
 slice-aggregate-put-field c = search needs
@@ -18,12 +19,10 @@ put-field-requires : tie.Need-put-field-requires
 put-field-requires c κs = search needs
 
 array-share-prefix-disk : tie.Need-array-share-prefix-disk
-array-share-prefix-disk c = fixture-parts (c .before .before .before .before .before .before .before .before) .disk
+array-share-prefix-disk c = fixture-parts c .disk
 
 slice-aggregate-put-words : tie.Need-slice-aggregate-put-words
-slice-aggregate-put-words c =
-    let s = c .before .before .before .before .before .before .before .before .before in
-    sym (length-take-le (s .args .fixture .length) (s .args .fixture .disk) (fixture-parts s .disk))
+slice-aggregate-put-words c = sym (length-take-le _ _ (fixture-parts (c .before) .disk))
 
 put-words-requires : tie.Need-put-words-requires
 put-words-requires c κs = search needs

@@ -6,10 +6,11 @@ use borrow.Author.Needs.{needs}
 use Rattle.inspect_run.proofs.show.put_places.Statement.{statement}
 use Rattle.inspect_run.proofs.show.put_places.Tie as tie
 
-fixture-parts : (s : tie.Start) → Parts (s .args .fixture)
-fixture-parts s =
-    let good = s .good .1 in
-    parts _ (good .1 .0) (s .pre .1)
+abbrev start : tie.After-put-list-arg → tie.Start
+start c = c .before .before .before .before .before .before .before .before
+
+fixture-parts : (c : tie.After-put-list-arg) → Parts (start c .args .fixture)
+fixture-parts c = let good = start c .good .1 in parts _ (good .1 .0) (start c .pre .1)
 
 slice-aggregate-put-field : tie.Need-slice-aggregate-put-field
 slice-aggregate-put-field c = search needs
@@ -18,12 +19,10 @@ put-field-requires : tie.Need-put-field-requires
 put-field-requires c κs = search needs
 
 array-share-prefix-list : tie.Need-array-share-prefix-list
-array-share-prefix-list c = fixture-parts (c .before .before .before .before .before .before .before .before) .list
+array-share-prefix-list c = fixture-parts c .list
 
 slice-aggregate-put-list : tie.Need-slice-aggregate-put-list
-slice-aggregate-put-list c =
-    let s = c .before .before .before .before .before .before .before .before .before in
-    sym (length-take-le (s .args .fixture .places) (s .args .fixture .list) (fixture-parts s .list))
+slice-aggregate-put-list c = sym (length-take-le _ _ (fixture-parts (c .before) .list))
 
 put-list-requires : tie.Need-put-list-requires
 put-list-requires c κs = search needs
