@@ -14,11 +14,9 @@ words-for-requires c κs = search needs
 
 returns-2 : tie.Need-returns-2
 returns-2 c =
-    let start = c .before .before .before in
-    simp (
-      le-leb _ _ (c .before .before .if1 .left),
-      le-ltb (start .args .number) (wordsFor (start .args .blocks)) (omega (arith, c .before .words-for .ensures)),
-    )
+    let at = c .before in
+    let a = at .before .before .args in
+    simp (le-leb _ _ (at .before .if1 .left), le-ltb (a .number) (wordsFor (a .blocks)) (omega (arith, at .words-for .ensures)))
 
 mul-below : tie.Need-mul-below
 mul-below c = search needs
@@ -31,11 +29,9 @@ below-requires c κs = search needs
 
 returns-3 : tie.Need-returns-3
 returns-3 c =
-    let start = c .before .before .before .before in
-    simp (
-      le-leb _ _ (c .before .before .before .if1 .left),
-      lt-ltb (start .args .number) (wordsFor (start .args .blocks)) (omega (arith, c .before .before .words-for .ensures)),
-    )
+    let at = c .before .before in
+    let a = at .before .before .args in
+    simp (le-leb _ _ (at .before .if1 .left), lt-ltb (a .number) (wordsFor (a .blocks)) (omega (arith, at .words-for .ensures)))
     (c .below .ensures)
 
 pub entry-valid-spec : {M : Type 1} → statement M

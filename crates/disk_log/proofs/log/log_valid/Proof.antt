@@ -20,6 +20,19 @@ Inv-loop disk blocks entries count low₀ i₀ low i =
 abbrev μ-loop : tie.MeasureT-loop
 μ-loop disk blocks entries count low₀ i₀ low i = logLength disk - i
 
+-- ---- what is known on the way
+
+abbrev start : tie.After-words-for Inv-loop μ-loop → tie.Start Inv-loop μ-loop
+start c = c .before .before .before .before
+
+-- the start of a turn's loop
+abbrev entry : tie.At-loop Inv-loop μ-loop → tie.Start Inv-loop μ-loop
+entry c = start (c .before .before)
+
+-- the turn that an entry is looked at in
+abbrev turn : tie.After-entry-valid Inv-loop μ-loop → tie.In-loop Inv-loop μ-loop
+turn c = c .before .before .before
+
 shared-slice-read-blocks : tie.Need-shared-slice-read-blocks Inv-loop μ-loop
 shared-slice-read-blocks c = omega arith
 
@@ -31,9 +44,7 @@ words-for-requires c κs = omega arith
 
 returns : tie.Need-returns Inv-loop μ-loop
 unfolding lengthIn
-returns c =
-    let start = c .before .before .before .before .before in
-    sym (log-too-long (now (start .args .disk)) (omega (arith, c .before .words-for .ensures)))
+returns c = sym (log-too-long (now (start (c .before) .args .disk)) (omega (arith, c .before .words-for .ensures)))
 
 cast-count : tie.Need-cast-count Inv-loop μ-loop
 cast-count c = omega arith
@@ -41,9 +52,8 @@ cast-count c = omega arith
 loop-holds : tie.Need-loop-holds Inv-loop μ-loop
 unfolding lengthIn
 loop-holds c =
-    let start = c .before .before .before .before .before in
     let few = c .before .words-for .ensures in
-    (omega arith, omega (arith, few), log-entries (now (start .args .disk)) (omega (arith, few)))
+    (omega arith, omega (arith, few), log-entries (now (start (c .before) .args .disk)) (omega (arith, few)))
 
 number-requires : tie.Need-number-requires Inv-loop μ-loop
 number-requires c κs = omega arith
@@ -57,23 +67,15 @@ entry-valid-requires c κs = omega arith
 returns-2 : tie.Need-returns-2 Inv-loop μ-loop
 unfolding lengthIn
 returns-2 c =
-    let start = c .before .before .before .before .before .before .before .before .before .before .before in
-    let at = c .before .before .before .before .before .loop in
+    let looked = c .before in
+    let at = turn looked .before in
     sym
-    (at .inv .2
-    ∙ entries-stop (now (start .args .disk)) (start .pre .0) (at .inv .1) (at .low) (at .i)
-    (c .before .before .before .before .loop-test .taken) (c .before .before .before .number .ensures)
-    (c .before .before .contents .ensures) (c .before .entry-valid .ensures) (not-true _ (c .if2 .taken)))
+    (at .loop .inv .2
+    ∙ entries-stop _ (entry at .pre .0) (at .loop .inv .1) _ _ (turn looked .loop-test .taken)
+    (looked .before .before .number .ensures) (looked .before .contents .ensures) (looked .entry-valid .ensures) (not-true _ (c .if2 .taken)))
 
 add-low : tie.Need-add-low Inv-loop μ-loop
-add-low c =
-    let start = c .before .before .before .before .before .before .before .before .before .before .before in
-    let at = c .before .before .before .before .before .loop in
-    omega (
-      arith,
-      follows-below (diskBlocks (now (start .args .disk))) (at .low) (c .before .before .before .number .result)
-          (c .before .before .contents .result) (c .before .entry-valid .ensures) (not-false _ (c .if2 .left)),
-    )
+add-low c = omega (arith, follows-below _ _ _ _ (c .before .entry-valid .ensures) (not-false _ (c .if2 .left)))
 
 add-i : tie.Need-add-i Inv-loop μ-loop
 add-i c = omega arith
@@ -85,22 +87,20 @@ loop-less c = omega arith
 loop-again : tie.Need-loop-again Inv-loop μ-loop
 unfolding lengthIn
 loop-again c =
-    let start = c .before .before .before .before .before .before .before .before .before .before .before in
-    let at = c .before .before .before .before .before .loop in (
+    let looked = c .before in
+    let at = turn looked .before in (
       omega arith,
-      at .inv .1,
-      at .inv .2
-          ∙ entries-go (now (start .args .disk)) (start .pre .0) (at .inv .1) (at .low) (at .i)
-          (c .before .before .before .before .loop-test .taken) (c .before .before .before .number .ensures)
-          (c .before .before .contents .ensures) (c .before .entry-valid .ensures) (not-false _ (c .if2 .left)),
+      at .loop .inv .1,
+      at .loop .inv .2
+          ∙ entries-go _ (entry at .pre .0) (at .loop .inv .1) _ _ (turn looked .loop-test .taken)
+          (looked .before .before .number .ensures) (looked .before .contents .ensures) (looked .entry-valid .ensures) (not-false _ (c .if2 .left)),
     )
 
 returns-3 : tie.Need-returns-3 Inv-loop μ-loop
 unfolding lengthIn
 returns-3 c =
-    let start = c .before .before .before .before .before .before .before in
-    let at = c .before .loop in
-    sym (at .inv .2 ∙ entries-end (now (start .args .disk)) (start .pre .0) (at .inv .1) (at .low) (at .i) (c .loop-test .left))
+    let at = c .before in
+    sym (at .loop .inv .2 ∙ entries-end _ (entry at .pre .0) (at .loop .inv .1) _ _ (c .loop-test .left))
 
 pub log-valid-spec : {M : Type 1} → statement M
 log-valid-spec =

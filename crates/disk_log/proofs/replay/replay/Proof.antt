@@ -22,9 +22,7 @@ rewrite-requires c κs =
 
 returns : tie.Need-returns
 unfolding durable
-returns c =
-    let start = c .before .before .before .before in
-    c .rewrite .ensures ∙ ap (writes (logEntries (now (start .args .disk)))) (c .before .before .bitmap .ensures)
+returns c = c .rewrite .ensures ∙ ap (writes _) (c .before .before .bitmap .ensures)
 
 pub replay-spec : {M : Type 1} → statement M
 replay-spec = tie.close (tie.spec bitmap-requires rewrite-requires returns)

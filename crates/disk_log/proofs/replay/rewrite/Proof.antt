@@ -20,24 +20,26 @@ Inv-loop words₀ disk from count i₀ words i =
 abbrev μ-loop : tie.MeasureT-loop
 μ-loop words₀ disk from count i₀ words i = logLength disk - i
 
+-- ---- what is known on the way
+
+abbrev start : tie.At-loop Inv-loop μ-loop → tie.Start Inv-loop μ-loop
+start c = c .before .before .before
+
+-- the loop that an entry is read in
+abbrev at-loop : tie.After-contents Inv-loop μ-loop → tie.At-loop Inv-loop μ-loop
+at-loop c = c .before .before .before
+
 -- the log has few entries
-few : (start : tie.Start Inv-loop μ-loop) → logLength (now (start .args .disk)) ≤ bitmapWords
-few start =
-    let log = start .pre .1 .1 in
-    entries-few (now (start .args .disk)) (log .0) (log .1 .0)
+few : (c : tie.At-loop Inv-loop μ-loop) → logLength (now (start c .args .disk)) ≤ bitmapWords
+few c = let log = start c .pre .1 .1 in entries-few _ (log .0) (log .1 .0)
 
 -- the entry that is read is for a word of the bitmap
 within : (c : tie.After-contents Inv-loop μ-loop) → c .before .number .result < bitmapWords
 unfolding lengthIn
 within c =
-    let start = c .before .before .before .before .before .before in
-    let log = start .pre .1 .1 in
-    omega (
-      arith,
-      c .before .number .ensures,
-      place-below (now (start .args .disk)) (c .before .before .before .loop .i) (start .pre .1 .0) (log .0) (log .1 .0)
-          (c .before .before .loop-test .taken),
-    )
+    let pre = start (at-loop c) .pre .1 in
+    let log = pre .1 in
+    omega (arith, c .before .number .ensures, place-below _ _ (pre .0) (log .0) (log .1 .0) (c .before .before .loop-test .taken))
 
 shared-slice-read-count : tie.Need-shared-slice-read-count Inv-loop μ-loop
 shared-slice-read-count c = omega arith
@@ -52,14 +54,14 @@ loop-holds c =
 
 number-requires : tie.Need-number-requires Inv-loop μ-loop
 unfolding lengthIn
-number-requires c κs = omega (arith, few (c .before .before .before .before))
+number-requires c κs = omega (arith, few (c .before))
 
 cast-place : tie.Need-cast-place Inv-loop μ-loop
 cast-place c = omega arith
 
 contents-requires : tie.Need-contents-requires Inv-loop μ-loop
 unfolding lengthIn
-contents-requires c κs = omega (arith, few (c .before .before .before .before .before))
+contents-requires c κs = omega (arith, few (c .before .before))
 
 mul-words : tie.Need-mul-words Inv-loop μ-loop
 mul-words c = omega (arith, within c)
@@ -68,7 +70,7 @@ element-write-words : tie.Need-element-write-words Inv-loop μ-loop
 element-write-words c = omega (arith, within c)
 
 add-i : tie.Need-add-i Inv-loop μ-loop
-add-i c = omega (arith, few (c .before .before .before .before .before .before))
+add-i c = omega (arith, few (at-loop c))
 
 loop-less : tie.Need-loop-less Inv-loop μ-loop
 unfolding lengthIn
@@ -77,22 +79,18 @@ loop-less c = omega arith
 loop-again : tie.Need-loop-again Inv-loop μ-loop
 unfolding lengthIn
 loop-again c =
-    let start = c .before .before .before .before .before .before in
-    let at = c .before .before .before .loop in (
+    let at = at-loop c in (
       omega arith,
-      simp length-set (at .inv .1),
-      rewrite-more (now (start .args .disk)) (at .words) (at .i) (start .pre .1 .0) (few start) (c .before .before .loop-test .taken)
-          (c .before .number .ensures) (c .contents .ensures)
-          ∙ at .inv .2,
+      simp length-set (at .loop .inv .1),
+      rewrite-more _ _ _ (start at .pre .1 .0) (few at) (c .before .before .loop-test .taken) (c .before .number .ensures) (c .contents .ensures)
+          ∙ at .loop .inv .2,
     )
 
 returns : tie.Need-returns Inv-loop μ-loop
 unfolding lengthIn
 returns c =
-    let start = c .before .before .before .before in
-    let at = c .before .loop in
-    sym (rewrite-end (now (start .args .disk)) (at .words) (at .i) (start .pre .1 .0) (few start) (c .loop-test .left))
-    ∙ at .inv .2
+    let at = c .before in
+    sym (rewrite-end _ _ _ (start at .pre .1 .0) (few at) (c .loop-test .left)) ∙ at .loop .inv .2
 
 pub rewrite-spec : {M : Type 1} → statement M
 rewrite-spec =

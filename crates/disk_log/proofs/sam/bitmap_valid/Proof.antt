@@ -17,16 +17,12 @@ bitmap-requires c κs = search needs
 
 no-bits-from-requires : tie.Need-no-bits-from-requires
 no-bits-from-requires c κs =
-    let start = c .before .before .before .before in (
-      rw (c .before .bitmap .ensures)
-          (bitmap-is (now (start .args .disk)) (start .pre .0) (λ i. omega (arith, c .before .before .before .shared-slice-known .given i))),
-      start .pre .1,
-    )
+    let known = c .before .before .before in
+    let start = known .before in
+    (rw (c .before .bitmap .ensures) (bitmap-is _ (start .pre .0) (λ i. omega (arith, known .shared-slice-known .given i))), start .pre .1)
 
 returns : tie.Need-returns
-returns c =
-    let start = c .before .before .before .before .before in
-    c .no-bits-from .ensures ∙ ap (noBitsFrom (diskBlocks (now (start .args .disk)))) (c .before .before .bitmap .ensures)
+returns c = c .no-bits-from .ensures ∙ ap (noBitsFrom _) (c .before .before .bitmap .ensures)
 
 pub bitmap-valid-spec : {M : Type 1} → statement M
 bitmap-valid-spec =
