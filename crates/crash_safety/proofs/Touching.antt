@@ -3,7 +3,7 @@
 use Prim.Native.Nat.{ℕ, _+_, _≤_, _<_}
 use native.Mathlib.Decide.{ℕ-discrete}
 use native.Mathlib.Omega.{arith}
-use mathlib.Core.Path.{_≡_, sym, ap, _∙_, subst, subst₂}
+use mathlib.Core.Path.{_≡_, refl, sym, ap, _∙_, subst, subst₂}
 use mathlib.Core.Bool.{Bool, true, not, _&&_}
 use mathlib.Core.Option.{none}
 use mathlib.Core.List.{List}
@@ -19,7 +19,7 @@ use Rattle.model.proofs.Laws.Accepted.{Ready}
 use Rattle.crash_safety.specs.Ledger.{Sets, noSets, Ledger, setsOf, withAllSets, withSets, holders}
 use Rattle.crash_safety.specs.World.{World, worldOf}
 use Rattle.crash_safety.proofs.Holders.{one, takers-set}
-use Rattle.crash_safety.proofs.Invariant.{Tied, Plain, PendingTied, Related, Invariant}
+use Rattle.crash_safety.proofs.Invariant.{Tied, Plain, PendingTied, Related, Invariant, same-disk}
 
 -- one slot and its sets change
 retied : (sam : ℕ → Bool) (slots : List Slot) (sets : List Sets) (s : ℕ) (slot : Slot) (own : Sets)
@@ -54,18 +54,13 @@ module _ (w : World) (s : ℕ) (i : Invariant w) (ready : Ready (w .memory) s) w
       → ((b : ℕ) → holders (withSets (w .ledger) s own) b ≤ 1)
       → Invariant (worldOf (withSlot (withCom (w .memory) «com») s slot) (w .disk) (withSets (w .ledger) s own))
   touching slot «com» own new holding =
+      same-disk w memory ledger i refl holding (length-set (w .ledger .slots) s own ∙ i .slots)
+      (λ _.
       record {
-        small = i .small;
-        opens = i .opens;
-        kept = i .kept;
-        one-holder = holding;
-        slots = length-set (w .ledger .slots) s own ∙ i .slots;
-        related = λ _. record {
-          sam = related .sam;
-          slots = slots-length (w .memory) s slot ∙ related .slots;
-          pending = subst (PendingTied memory ledger) (sym (ready .nothing-pending)) after;
-        };
-      }
+        sam = related .sam;
+        slots = slots-length (w .memory) s slot ∙ related .slots;
+        pending = subst (PendingTied memory ledger) (sym (ready .nothing-pending)) after;
+      })
     where
       memory : Memory
       memory = withSlot (withCom (w .memory) «com») s slot
