@@ -9,7 +9,7 @@ use mathlib.Core.List.{List, _++_}
 use lib.ListN.{length, getD, take, drop, length-take}
 use lib.Seq.{take-at}
 use Rattle.bitmap.specs.Blocks.{member}
-use Rattle.bitmap.proofs.Laws.Bits.{noBits-bit}
+use Rattle.bitmap.proofs.Laws.Bits.{noBits-bit, bitmapOf-bits}
 use Rattle.bitmap.proofs.Laws.Blocks.{member-append}
 use Rattle.model.specs.declared.error.Error.{Error}
 use Rattle.model.specs.declared.memory.Memory.{Memory}
@@ -29,7 +29,7 @@ use Rattle.crash_safety.specs.World.{World, worldOf, events, step}
 use Rattle.crash_safety.proofs.Holders.{one, one-le, takers-none}
 use Rattle.crash_safety.proofs.Invariant.{Tied, Plain, Invariant}
 use Rattle.crash_safety.proofs.Refused.{memory-keeps}
-use Rattle.crash_safety.proofs.Touching.{plain, sets-there, touching, holders-set, active-taken, active-freed, volume-bit}
+use Rattle.crash_safety.proofs.Touching.{plain, sets-there, touching, holders-set, active-taken, active-freed}
 
 -- ---- the slot's sets
 
@@ -150,7 +150,7 @@ grant-keeps w s blocks i ready active all =
     touching w s i ready new (volumeBitmap (w .memory) (λ b. member b blocks || comBit (w .memory) b))
     (withTaken (setsOf (w .ledger) s) (setsOf (w .ledger) s .taken ++ blocks))
     (taken-tie (samBit (w .memory)) slot new (setsOf (w .ledger) s) blocks active refl
-    (volume-bit (w .memory .blocks) (λ b. member b blocks || tamBit slot b) (parts .few-blocks) (none-from (w .memory) s blocks all parts))
+    (bitmapOf-bits (w .memory .blocks) (λ b. member b blocks || tamBit slot b) (parts .few-blocks) (none-from (w .memory) s blocks all parts))
     (λ b m. all b m .free)
     (tied .slots s))
     (λ b. one-taker (w .ledger) s b blocks (sets-there w s i ready) (i .one-holder b) (λ m. unheld (w .memory) (w .ledger) b parts tied (all b m)))

@@ -26,7 +26,7 @@ use Rattle.model.proofs.Laws.Commit.{committed-bits}
 use Rattle.model.proofs.Laws.Committed.{committed-bitmap}
 use Rattle.crash_safety.specs.Ledger.{enterAll, Sets, setsOf, setsWords, counts, withCounting, entered, holders}
 use Rattle.crash_safety.specs.World.{World, worldOf, events, step}
-use Rattle.crash_safety.proofs.Invariant.{Tied, Plain, Related, Invariant, countingOf}
+use Rattle.crash_safety.proofs.Invariant.{Tied, Plain, Related, Invariant, countingOf, same-disk}
 use Rattle.crash_safety.proofs.Refused.{memory-keeps}
 use Rattle.crash_safety.proofs.Touching.{plain, active-taken, active-freed}
 use Rattle.crash_safety.proofs.Count.{words-changed}
@@ -84,26 +84,20 @@ module _ (w : World) (s : ℕ) (i : Invariant w) (a : CommitAccepted (w .memory)
   -- d is 0
   ended : changedOf (w .memory) s ≡ 0 → Invariant (worldOf (committed (w .memory) s) (w .disk) (w .ledger))
   ended e =
-      record {
-        small = i .small;
-        opens = i .opens;
-        kept = i .kept;
-        one-holder = i .one-holder;
-        slots = i .slots;
-        related = λ _.
-            committed-related (w .memory) (w .ledger) s parts (a .active) (related .slots) (a .ready .below)
-            (λ b. sym (same b) ∙ tied .finds b)
-            (λ t n. tied .slots t)
-            (λ b.
-            active-taken (samBit (w .memory)) (slotAt (w .memory) s) (setsOf (w .ledger) s) (tied .slots s) (a .active) b
-            ∙ ap (λ (t : Bool). t && not (samBit (w .memory) b)) (untouched b)
-            ∙ and-not-self (samBit (w .memory) b))
-            (λ b.
-            active-freed (samBit (w .memory)) (slotAt (w .memory) s) (setsOf (w .ledger) s) (tied .slots s) (a .active) b
-            ∙ ap (λ (t : Bool). samBit (w .memory) b && not t) (untouched b)
-            ∙ and-not-self (samBit (w .memory) b))
-            (tied .counted);
-      }
+      same-disk w (committed (w .memory) s) (w .ledger) i refl (i .one-holder) (i .slots)
+      (λ _.
+      committed-related (w .memory) (w .ledger) s parts (a .active) (related .slots) (a .ready .below)
+      (λ b. sym (same b) ∙ tied .finds b)
+      (λ t n. tied .slots t)
+      (λ b.
+      active-taken (samBit (w .memory)) (slotAt (w .memory) s) (setsOf (w .ledger) s) (tied .slots s) (a .active) b
+      ∙ ap (λ (t : Bool). t && not (samBit (w .memory) b)) (untouched b)
+      ∙ and-not-self (samBit (w .memory) b))
+      (λ b.
+      active-freed (samBit (w .memory)) (slotAt (w .memory) s) (setsOf (w .ledger) s) (tied .slots s) (a .active) b
+      ∙ ap (λ (t : Bool). samBit (w .memory) b && not t) (untouched b)
+      ∙ and-not-self (samBit (w .memory) b))
+      (tied .counted))
     where
       same : (b : ℕ) → samBit (w .memory) b ≡ bit (committedSam (w .memory) s .words) b
       same b = ap (λ (words : List ℕ). bit words b) (unchanged (w .memory) s (related .sam) e)
@@ -115,18 +109,13 @@ module _ (w : World) (s : ℕ) (i : Invariant w) (a : CommitAccepted (w .memory)
   begun : (due : ℕ) → Invariant (worldOf (withPending (w .memory) (Commit s 0 due)) (w .disk) (withCounting (w .ledger) (countingOf s 0)))
   unfolding holders
   begun due =
+      same-disk w (withPending (w .memory) (Commit s 0 due)) (withCounting (w .ledger) (countingOf s 0)) i refl (i .one-holder) (i .slots)
+      (λ _.
       record {
-        small = i .small;
-        opens = i .opens;
-        kept = i .kept;
-        one-holder = i .one-holder;
-        slots = i .slots;
-        related = λ _. record {
-          sam = related .sam;
-          slots = related .slots;
-          pending = ((λ _. record { finds = tied .finds; slots = tied .slots; counted = refl }), λ h. absurd (omega (arith, h)));
-        };
-      }
+        sam = related .sam;
+        slots = related .slots;
+        pending = ((λ _. record { finds = tied .finds; slots = tied .slots; counted = refl }), λ h. absurd (omega (arith, h)));
+      })
 
   committing-keeps : Invariant (worldOf (committing (w .memory) s) (w .disk) (counts (w .ledger) s))
   unfolding committing counts

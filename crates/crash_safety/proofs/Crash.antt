@@ -28,7 +28,7 @@ use Rattle.model.proofs.Laws.Durable.{durable-length}
 use Rattle.crash_safety.specs.Ledger.{Event, Sets, noSets, Ledger, emptied, entered, enter, enterAll, crashEvent, holders, opening}
 use Rattle.crash_safety.specs.World.{World, worldOf, eventOf, events, step}
 use Rattle.crash_safety.proofs.Holders.{one-le, takers-crashed}
-use Rattle.crash_safety.proofs.Invariant.{Tied, Plain, PendingTied, Invariant}
+use Rattle.crash_safety.proofs.Invariant.{Tied, Plain, PendingTied, Invariant, same-disk}
 use Rattle.crash_safety.proofs.Refused.{enter-accepted}
 use Rattle.crash_safety.proofs.Small.{durable-small}
 
@@ -52,14 +52,7 @@ emptied-holders ledger b = omega (arith, one-le (member b (ledger .allocated)), 
 pub crash-keeps : (w : World) → Invariant w → Invariant (step crashCall w)
 unfolding step events enterAll outcome enter entered emptied
 crash-keeps w i =
-    record {
-      small = i .small;
-      opens = i .opens;
-      kept = i .kept;
-      one-holder = emptied-holders (w .ledger);
-      slots = refl;
-      related = λ v. absurd (false≢true (sym zero-invalid ∙ v));
-    }
+    same-disk w zeroMemory (emptied (w .ledger)) i refl (emptied-holders (w .ledger)) refl (λ v. absurd (false≢true (sym zero-invalid ∙ v)))
 
 -- ---- an open
 
@@ -81,18 +74,13 @@ idle-plain disk pending ledger kept =
 opened-keeps : (w : World) → Invariant w → Invariant (worldOf (opened (w .disk)) (w .disk) (emptied (w .ledger)))
 unfolding opened emptied recoveryPending
 opened-keeps w i =
+    same-disk w (opened (w .disk)) (emptied (w .ledger)) i refl (emptied-holders (w .ledger)) refl
+    (λ _.
     record {
-      small = i .small;
-      opens = i .opens;
-      kept = i .kept;
-      one-holder = emptied-holders (w .ledger);
+      sam = record { size = durable-length (w .disk) (i .opens); small = durable-small (w .disk) (i .small) };
       slots = refl;
-      related = λ _. record {
-        sam = record { size = durable-length (w .disk) (i .opens); small = durable-small (w .disk) (i .small) };
-        slots = refl;
-        pending = by-log (logLength (w .disk));
-      };
-    }
+      pending = by-log (logLength (w .disk));
+    })
   where
     memory : Memory
     memory = quietMemory (diskBlocks (w .disk)) (bitmap (durable (w .disk))) (recoveryPending (logLength (w .disk)))

@@ -8,7 +8,7 @@ use lib.ListN.{length}
 use lib.Dec.{eqb}
 use borrow.Author.Tests.{eqb-true}
 use Rattle.bitmap.specs.Blocks.{member}
-use Rattle.bitmap.proofs.Laws.Bits.{noBits-bit}
+use Rattle.bitmap.proofs.Laws.Bits.{noBits-bit, bitmapOf-bits}
 use Rattle.bitmap.proofs.Laws.Blocks.{member-append}
 use Rattle.model.specs.declared.memory.Memory.{Memory}
 use Rattle.model.specs.declared.memory.Slot.{Slot}
@@ -22,7 +22,7 @@ use Rattle.crash_safety.specs.Ledger.{enterAll, Sets, Ledger, withFreed,
 use Rattle.crash_safety.specs.World.{World, events, step}
 use Rattle.crash_safety.proofs.Invariant.{Tied, Invariant}
 use Rattle.crash_safety.proofs.Refused.{memory-keeps}
-use Rattle.crash_safety.proofs.Touching.{plain, sets-there, touching, holders-set, active-taken, active-freed, volume-bit}
+use Rattle.crash_safety.proofs.Touching.{plain, sets-there, touching, holders-set, active-taken, active-freed}
 
 module _ (sam : ℕ → Bool) (slot new : Slot) (sets : Sets) (block : ℕ)
     (active : isActive (slot .state) ≡ true)
@@ -83,7 +83,7 @@ deallocate-keeps w s block i =
     (volumeBitmap (w .memory) (λ b. not (eqb b block) && comBit (w .memory) b))
     (withFreed (setsOf (w .ledger) s) freed)
     (freed-tie (samBit (w .memory)) slot new (setsOf (w .ledger) s) block (a .active) refl
-    (volume-bit (w .memory .blocks) (λ b. not (eqb b block) && tamBit slot b) (parts .few-blocks) (none-from (w .memory) s block parts))
+    (bitmapOf-bits (w .memory .blocks) (λ b. not (eqb b block) && tamBit slot b) (parts .few-blocks) (none-from (w .memory) s block parts))
     (a .allocated)
     (plain w s i (a .ready) .slots s))
     (λ b. same-holders (w .ledger) s b freed (sets-there w s i (a .ready)) (i .one-holder b)))

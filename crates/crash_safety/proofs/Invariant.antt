@@ -1,6 +1,6 @@
 -- What holds after every list of calls.
 use Prim.Native.Nat.{ℕ, _*_, _^_, _≤_, _<_}
-use mathlib.Core.Path.{_≡_}
+use mathlib.Core.Path.{_≡_, sym, ap, _∙_}
 use mathlib.Core.Bool.{Bool, true, not, _&&_}
 use mathlib.Core.Option.{Option, none, some}
 use mathlib.Core.List.{List}
@@ -18,7 +18,7 @@ use Rattle.model.specs.Valid.{valid}
 use Rattle.model.specs.Disk.{durable}
 use Rattle.model.specs.Calls.Opening.{openError}
 use Rattle.crash_safety.specs.Ledger.{Sets, noSets, Counting, Ledger, setsOf, holders}
-use Rattle.crash_safety.specs.World.{World}
+use Rattle.crash_safety.specs.World.{World, worldOf}
 
 -- every word fits 32 bits
 abbrev pub Small : List ℕ → Type 0
@@ -67,3 +67,21 @@ pub record Invariant (w : World) : Type 0 where
   pub one-holder : (b : ℕ) → holders (w .ledger) b ≤ 1
   pub slots : length (w .ledger .slots) ≡ slotCount
   pub related : valid (w .memory) ≡ true → Related (w .memory) (w .ledger)
+
+-- where the disk and the allocated set stay, what is said of them stays
+pub same-disk : (w : World) (memory : Memory) (ledger : Ledger)
+    → Invariant w
+    → ledger .allocated ≡ w .ledger .allocated
+    → ((b : ℕ) → holders ledger b ≤ 1)
+    → length (ledger .slots) ≡ slotCount
+    → (valid memory ≡ true → Related memory ledger)
+    → Invariant (worldOf memory (w .disk) ledger)
+same-disk w memory ledger i same holding slots related =
+    record {
+      small = i .small;
+      opens = i .opens;
+      kept = λ b. i .kept b ∙ sym (ap (member b) same);
+      one-holder = holding;
+      slots = slots;
+      related = related;
+    }

@@ -21,6 +21,7 @@ use Rattle.model.specs.Outcome.{Call, openCall, startCall, allocateCall, deallo
 use Rattle.crash_safety.specs.World.{World, begin, step, run}
 use Rattle.model.proofs.Laws.Accepted.{accepted-format}
 use Rattle.model.proofs.Laws.DiskParts.{blocks-inRange, none-told, diskOf-quiet, quiet-opens}
+use Rattle.model.proofs.Laws.Shape.{zeros-small}
 use Rattle.model.proofs.Laws.Valid.{noBits-empty}
 use Rattle.crash_safety.proofs.Holders.{takers-crashed}
 use Rattle.crash_safety.proofs.Invariant.{Invariant, Small}
@@ -51,11 +52,6 @@ run-keeps [] w i = i
 run-keeps (call ∷ calls) w i = run-keeps calls (step call w) (step-keeps call w i)
 
 -- ---- the beginning
-
-zeros-small : (n : ℕ) → Small (replicate n 0)
-zeros-small zero k = omega arith
-zeros-small (suc n) zero = omega arith
-zeros-small (suc n) (suc k) = zeros-small n k
 
 formatted-small : (blocks : ℕ) → blocks ≤ maxBlocks → Small (formatted blocks)
 unfolding formatted

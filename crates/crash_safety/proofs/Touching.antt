@@ -3,10 +3,9 @@
 use Prim.Native.Nat.{ℕ, _+_, _≤_, _<_}
 use native.Mathlib.Decide.{ℕ-discrete}
 use native.Mathlib.Omega.{arith}
-use mathlib.Core.Path.{_≡_, sym, ap, _∙_, subst, subst₂}
-use mathlib.Core.Bool.{Bool, true, false, not, _&&_}
+use mathlib.Core.Path.{_≡_, refl, sym, ap, _∙_, subst, subst₂}
+use mathlib.Core.Bool.{Bool, true, not, _&&_}
 use mathlib.Core.Option.{none}
-use mathlib.Core.Logic.{⊎-elim}
 use mathlib.Core.List.{List}
 use lib.ListN.{length, getD, set, length-set}
 use lib.Seq.{getD-set-same, getD-set-other, set-getD}
@@ -14,16 +13,13 @@ use Rattle.bitmap.specs.declared.Bitmap.{Bitmap}
 use Rattle.bitmap.specs.Blocks.{member}
 use Rattle.model.specs.declared.memory.Memory.{Memory}
 use Rattle.model.specs.declared.memory.Slot.{Slot}
-use Rattle.bitmap.specs.Sizes.{maxBlocks}
 use Rattle.model.specs.Memory.{withCom, withSlot, idleSlot, isActive, samBit, tamBit}
 use Rattle.model.proofs.Laws.Fields.{slots-length}
 use Rattle.model.proofs.Laws.Accepted.{Ready}
 use Rattle.crash_safety.specs.Ledger.{Sets, noSets, Ledger, setsOf, withAllSets, withSets, holders}
 use Rattle.crash_safety.specs.World.{World, worldOf}
-use Rattle.bitmap.specs.Bits.{bit, bitmapOf}
-use Rattle.bitmap.proofs.Laws.Bits.{bit-below, bit-from, below-or-from}
 use Rattle.crash_safety.proofs.Holders.{one, takers-set}
-use Rattle.crash_safety.proofs.Invariant.{Tied, Plain, PendingTied, Related, Invariant}
+use Rattle.crash_safety.proofs.Invariant.{Tied, Plain, PendingTied, Related, Invariant, same-disk}
 
 -- one slot and its sets change
 retied : (sam : ℕ → Bool) (slots : List Slot) (sets : List Sets) (s : ℕ) (slot : Slot) (own : Sets)
@@ -58,18 +54,13 @@ module _ (w : World) (s : ℕ) (i : Invariant w) (ready : Ready (w .memory) s) w
       → ((b : ℕ) → holders (withSets (w .ledger) s own) b ≤ 1)
       → Invariant (worldOf (withSlot (withCom (w .memory) «com») s slot) (w .disk) (withSets (w .ledger) s own))
   touching slot «com» own new holding =
+      same-disk w memory ledger i refl holding (length-set (w .ledger .slots) s own ∙ i .slots)
+      (λ _.
       record {
-        small = i .small;
-        opens = i .opens;
-        kept = i .kept;
-        one-holder = holding;
-        slots = length-set (w .ledger .slots) s own ∙ i .slots;
-        related = λ _. record {
-          sam = related .sam;
-          slots = slots-length (w .memory) s slot ∙ related .slots;
-          pending = subst (PendingTied memory ledger) (sym (ready .nothing-pending)) after;
-        };
-      }
+        sam = related .sam;
+        slots = slots-length (w .memory) s slot ∙ related .slots;
+        pending = subst (PendingTied memory ledger) (sym (ready .nothing-pending)) after;
+      })
     where
       memory : Memory
       memory = withSlot (withCom (w .memory) «com») s slot
@@ -115,8 +106,3 @@ module _ (sam : ℕ → Bool) (slot : Slot) (sets : Sets) (tie : Tied sam slot s
 
   pub active-freed : member b (sets .freed) ≡ (sam b && not (tamBit slot b))
   active-freed = tie .freed b ∙ ap (λ (t : Bool). t && (sam b && not (tamBit slot b))) e
-
--- the bits of a bitmap of m blocks, where f has none from m on
-pub volume-bit : (m : ℕ) (f : ℕ → Bool) → m ≤ maxBlocks → ((b : ℕ) → m ≤ b → f b ≡ false) → (b : ℕ) → bit (bitmapOf m f) b ≡ f b
-volume-bit m f few none-from b =
-    ⊎-elim (λ (h : b < m). bit-below m f b few h) (λ (h : m ≤ b). bit-from m f b h ∙ sym (none-from b h)) (below-or-from b m)

@@ -36,16 +36,19 @@ InUse w = Consistent (w .memory) (w .disk)
 abbrev pub InOrder : World → Type 0
 InOrder w = (w .memory ≡ zeroMemory) ⊎ InUse w
 
--- for every block count from 1 to 4,096, every disk that was formatted and every list of calls
-abbrev pub AlwaysInOrder : Type 0
-AlwaysInOrder =
+-- for every block count from 1 to 4,096, every disk that was formatted and every list of calls: it holds of the world after them
+abbrev pub AfterEvery : (World → Type 0) → Type 0
+AfterEvery Holds =
     (blocks : ℕ)
     → 1 ≤ blocks
     → blocks ≤ maxBlocks
     → (disk : List ℕ)
     → length disk ≡ diskWords
     → (calls : List Call)
-    → InOrder (run calls (begin (formatDisk disk blocks)))
+    → Holds (run calls (begin (formatDisk disk blocks)))
+
+abbrev pub AlwaysInOrder : Type 0
+AlwaysInOrder = AfterEvery InOrder
 
 -- no call of a list is a crash
 abbrev pub NoCrash : List Call → Type 0
@@ -54,15 +57,7 @@ NoCrash (call ∷ calls) = (call ≡ crashCall → ⊥) × NoCrash calls
 
 -- from an open until the next crash, whatever calls came before, the world is in use
 abbrev pub InUseFromOpen : Type 0
-InUseFromOpen =
-    (blocks : ℕ)
-    → 1 ≤ blocks
-    → blocks ≤ maxBlocks
-    → (disk : List ℕ)
-    → length disk ≡ diskWords
-    → (calls later : List Call)
-    → NoCrash later
-    → InUse (run later (step openCall (run calls (begin (formatDisk disk blocks)))))
+InUseFromOpen = AfterEvery (λ w. (later : List Call) → NoCrash later → InUse (run later (step openCall w)))
 
 -- work that has begun can be brought to its end: each store still due is accepted, and then nothing is pending and memory and
 -- disk are consistent
@@ -73,12 +68,4 @@ pub record Completes (memory : Memory) (disk : List ℕ) : Type 0 where
 
 -- so in every world in use
 abbrev pub WorkCompletes : Type 0
-WorkCompletes =
-    (blocks : ℕ)
-    → 1 ≤ blocks
-    → blocks ≤ maxBlocks
-    → (disk : List ℕ)
-    → length disk ≡ diskWords
-    → (calls : List Call)
-    → InUse (run calls (begin (formatDisk disk blocks)))
-    → Completes (run calls (begin (formatDisk disk blocks)) .memory) (run calls (begin (formatDisk disk blocks)) .disk)
+WorkCompletes = AfterEvery (λ w. InUse w → Completes (w .memory) (w .disk))

@@ -178,6 +178,10 @@ bit-below m f b h l = bit-within m f b (omega arith) l
 pub bit-from : (m : ℕ) (f : ℕ → Bool) (b : ℕ) → m ≤ b → bit (bitmapOf m f) b ≡ false
 bit-from m f b h = noBits-bit m (bitmapOf m f) b (noBits-bitmapOf m f) h
 
+-- and all are f's where f has none from m on
+pub bitmapOf-bits : (m : ℕ) (f : ℕ → Bool) → m ≤ maxBlocks → ((b : ℕ) → m ≤ b → f b ≡ false) → (b : ℕ) → bit (bitmapOf m f) b ≡ f b
+bitmapOf-bits m f few none b = ⊎-elim (bit-below m f b few) (λ h. bit-from m f b h ∙ sym (none b h)) (below-or-from b m)
+
 -- the bitmap of a bitmap's bits is that bitmap
 pub bitmapOf-bit : (m : ℕ) (words : List ℕ) → m ≤ maxBlocks → IsBitmap words → noBitsFrom m words ≡ true → bitmapOf m (bit words) ≡ words
 bitmapOf-bit m words h is none =

@@ -7,7 +7,7 @@ use mathlib.Core.Logic.{⊎-elim}
 use mathlib.Core.Bool.{Bool, true, false, not, cond, xor, _&&_, false≢true, and-not-self}
 use Rattle.bitmap.specs.Bits.{bit}
 use Rattle.bitmap.specs.Majority.{majority}
-use Rattle.bitmap.proofs.Laws.Bits.{bit-below, bit-from, below-or-from, noBits-bit}
+use Rattle.bitmap.proofs.Laws.Bits.{bit-below, bit-from, bitmapOf-bits, below-or-from, noBits-bit}
 use Rattle.bitmap.proofs.Laws.Majority.{majority-untouched, majority-touched}
 use Rattle.model.specs.Types.{Bitmap, Memory}
 use Rattle.model.specs.Memory.{slotAt, withTam, isActive, samBit, comBit, tamBit, touched, volumeBitmap}
@@ -99,20 +99,17 @@ module _ (memory : Memory) (parts : ValidParts memory) where
   unfolding refreshed
   refreshed-bits new t active below b =
       ap (λ (u : Bool). tamBit (cond u (withTam (slotAt memory t) (volumeBitmap memory bits)) (slotAt memory t)) b) active
-      ∙ ⊎-elim
-      (λ (h : b < memory .blocks). bit-below (memory .blocks) bits b (parts .few-blocks) h)
-      (λ (h : memory .blocks ≤ b). bit-from (memory .blocks) bits b h ∙ sym (outside h))
-      (below-or-from b (memory .blocks))
+      ∙ bitmapOf-bits (memory .blocks) bits (parts .few-blocks) outside b
     where
       bits : ℕ → Bool
       bits x = cond (xor (samBit memory x) (bit (new .words) x)) (bit (new .words) x) (tamBit (slotAt memory t) x)
 
-      outside : memory .blocks ≤ b → bits b ≡ false
-      outside h = go (xor (samBit memory b) (bit (new .words) b))
+      outside : (x : ℕ) → memory .blocks ≤ x → bits x ≡ false
+      outside x h = go (xor (samBit memory x) (bit (new .words) x))
         where
-          go : (u : Bool) → cond u (bit (new .words) b) (tamBit (slotAt memory t) b) ≡ false
-          go true = below b h
-          go false = noBits-bit (memory .blocks) (slotAt memory t .tam .words) b (slot-below memory t parts) h
+          go : (u : Bool) → cond u (bit (new .words) x) (tamBit (slotAt memory t) x) ≡ false
+          go true = below x h
+          go false = noBits-bit (memory .blocks) (slotAt memory t .tam .words) x (slot-below memory t parts) h
 
   -- what another slot has taken or freed stays as it is: it takes part in none of the blocks that the commit changed
   pub others-kept : (s t b : ℕ)

@@ -25,7 +25,7 @@ pub record Shaped (memory : Memory) : Type 0 where
   pub tam : (s : ℕ) → IsBitmap (slotAt memory s .tam .words)
 
 -- zeros are words of 32 bits
-zeros-small : (n k : ℕ) → getD {A = ℕ} (replicate n 0) k 0 < 2 ^ 32
+pub zeros-small : (n k : ℕ) → getD {A = ℕ} (replicate n 0) k 0 < 2 ^ 32
 zeros-small zero k = omega arith
 zeros-small (suc n) zero = omega arith
 zeros-small (suc n) (suc k) = zeros-small n k

@@ -1,12 +1,13 @@
 -- What follows the word is the op's, and `other` stands where there is no such word.
-use Prim.Native.Nat.{_+_}
 use mathlib.Core.Path.{sym, _∙_}
-use lib.ListN.{length, drop}
 use borrow.Author.Needs.{needs}
 use Rattle.bench_line.proofs.Laws.Prefix.{found, missing}
 use Rattle.bench_line.proofs.Laws.Ops.{op-found, op-missing}
 use Rattle.bench_line.proofs.fields.op_else.Statement.{statement}
 use Rattle.bench_line.proofs.fields.op_else.Tie as tie
+
+abbrev start : tie.After-starts-with → tie.Start
+start c = c .before .before .before
 
 starts-with-requires : tie.Need-starts-with-requires
 starts-with-requires c κs = search needs
@@ -19,23 +20,13 @@ slot-number-requires c κs = c .before .starts-with .ensures .within (c .if1 .ta
 
 returns : tie.Need-returns
 returns c =
-    let w = c .before .before in
-    let s = w .before .before .before in
-    let a = s .args in
-    let rest = drop (3 + length (a .word .now)) (a .line .now) in
-    c .slot-number .ensures
-    ∙ sym
-    (op-found (a .op) (a .word .now) (drop 3 (a .line .now)) (a .other) (s .pre .1) rest
-    (found (w .starts-with .ensures) (c .before .if1 .taken)))
+    let asked = c .before .before in
+    c .slot-number .ensures ∙ sym (op-found _ _ _ _ (start asked .pre .1) _ (found (asked .starts-with .ensures) (c .before .if1 .taken)))
 
 returns-2 : tie.Need-returns-2
 returns-2 c =
-    let w = c .before in
-    let s = w .before .before .before in
-    let a = s .args in
-    sym
-    (op-missing (a .op) (a .word .now) (drop 3 (a .line .now)) (a .other) (s .pre .1)
-    (missing (w .starts-with .ensures) (c .if1 .left)))
+    let asked = c .before in
+    sym (op-missing _ _ _ _ (start asked .pre .1) (missing (asked .starts-with .ensures) (c .if1 .left)))
 
 pub op-else-spec : {M : Type 1} → statement M
 op-else-spec =

@@ -11,6 +11,17 @@ use Rattle.bench_line.proofs.Laws.Ops.{opsWith, at-end, at-letter, no-o
 use Rattle.bench_line.proofs.fields.parse_op.Statement.{statement}
 use Rattle.bench_line.proofs.fields.parse_op.Tie as tie
 
+-- ---- what is known past the first test: the line, what stands after "op=", and the ops that are left for its first letter
+
+abbrev line-at : tie.After-shared-slice-known2 → List ℕ
+line-at c = c .before .before .before .args .line .now
+
+abbrev bytes : tie.After-shared-slice-known2 → List ℕ
+bytes c = drop 3 (line-at c)
+
+from-letter : (c : tie.After-shared-slice-known2) (b : ℕ) → getD (line-at c) 3 0 ≡ b → parseOp ops (bytes c) ≡ parseOp (opsWith b ops) (bytes c)
+from-letter c b e = at-letter (line-at c) b (c .before .if1 .left) e
+
 returns : tie.Need-returns
 returns c = sym (at-end (c .before .before .args .line .now) (c .if1 .taken))
 
@@ -83,71 +94,59 @@ slice-aggregate-op-else-11 c = search needs
 op-else-requires-11 : tie.Need-op-else-requires-11
 op-else-requires-11 c κs = search needs
 
--- past the first test: what stands after "op=", and the ops that are left for its first letter
-abbrev bytes : tie.After-shared-slice-known2 → List ℕ
-bytes c = drop 3 (c .before .before .before .args .line .now)
-
-from-letter : (c : tie.After-shared-slice-known2) (b : ℕ) → getD (c .before .before .before .args .line .now) 3 0 ≡ b
-    → parseOp ops (bytes c) ≡ parseOp (opsWith b ops) (bytes c)
-from-letter c b e = at-letter (c .before .before .before .args .line .now) b (c .before .if1 .left) e
-
 returns-2 : tie.Need-returns-2
 unfolding ops parseOp opElse
 returns-2 c =
-    let m = c .before .before in
-    c .op-else .ensures ∙ sym (from-letter (m .before) 97 (m .match .keys1))
+    let letter = c .before .before in
+    c .op-else .ensures ∙ sym (from-letter (letter .before) 97 (letter .match .keys1))
 
 returns-3 : tie.Need-returns-3
 unfolding ops parseOp opElse
 returns-3 c =
     let cut = c .before .before in
-    let m = cut .before .before in
-    c .op-else3 .ensures
-    ∙ ap (opElse Op.Commit (bytes (m .before))) (cut .op-else2 .ensures)
-    ∙ sym (from-letter (m .before) 99 (m .match .keys2))
+    let letter = cut .before .before in
+    c .op-else3 .ensures ∙ ap (opElse Op.Commit _) (cut .op-else2 .ensures) ∙ sym (from-letter (letter .before) 99 (letter .match .keys2))
 
 returns-4 : tie.Need-returns-4
 unfolding ops parseOp opElse
 returns-4 c =
     let free = c .before .before in
-    let m = free .before .before in
-    c .op-else5 .ensures
-    ∙ ap (opElse Op.Format (bytes (m .before))) (free .op-else4 .ensures)
-    ∙ sym (from-letter (m .before) 102 (m .match .keys3))
+    let letter = free .before .before in
+    c .op-else5 .ensures ∙ ap (opElse Op.Format _) (free .op-else4 .ensures) ∙ sym (from-letter (letter .before) 102 (letter .match .keys3))
 
 returns-5 : tie.Need-returns-5
 unfolding ops parseOp opElse
 returns-5 c =
-    let m = c .before .before in
-    c .op-else6 .ensures ∙ sym (from-letter (m .before) 111 (m .match .keys4))
+    let letter = c .before .before in
+    c .op-else6 .ensures ∙ sym (from-letter (letter .before) 111 (letter .match .keys4))
 
 returns-6 : tie.Need-returns-6
 unfolding ops parseOp opElse
 returns-6 c =
-    let m = c .before .before in
-    c .op-else7 .ensures ∙ sym (from-letter (m .before) 112 (m .match .keys5))
+    let letter = c .before .before in
+    c .op-else7 .ensures ∙ sym (from-letter (letter .before) 112 (letter .match .keys5))
 
 returns-7 : tie.Need-returns-7
 unfolding ops parseOp opElse
 returns-7 c =
-    let m = c .before .before in
-    c .op-else8 .ensures ∙ sym (from-letter (m .before) 114 (m .match .keys6))
+    let letter = c .before .before in
+    c .op-else8 .ensures ∙ sym (from-letter (letter .before) 114 (letter .match .keys6))
 
 returns-8 : tie.Need-returns-8
 unfolding ops parseOp opElse
 returns-8 c =
     let store = c .before .before in
     let stat = store .before .before in
-    let m = stat .before .before in
+    let letter = stat .before .before in
     c .op-else11 .ensures
-    ∙ ap (opElse Op.Start (bytes (m .before))) (store .op-else10 .ensures ∙ ap (opElse Op.Store (bytes (m .before))) (stat .op-else9 .ensures))
-    ∙ sym (from-letter (m .before) 115 (m .match .keys7))
+    ∙ ap (opElse Op.Start _) (store .op-else10 .ensures ∙ ap (opElse Op.Store _) (stat .op-else9 .ensures))
+    ∙ sym (from-letter (letter .before) 115 (letter .match .keys7))
 
 returns-9 : tie.Need-returns-9
 unfolding parseOp
 returns-9 c =
     let k = c .before in
-    let first = getD (k .before .before .before .args .line .now) 3 0 in
+    let first = getD (line-at k) 3 0 in
     let s = c .match .rest in
     let r = s .0 in
     let p = r .0 in

@@ -10,11 +10,10 @@ use Rattle.bench_line.proofs.Laws.Fields.{no-slot, no-count-field, slot
 use Rattle.bench_line.proofs.fields.slot_number.Statement.{statement}
 use Rattle.bench_line.proofs.fields.slot_number.Tie as tie
 
-number-at-requires : tie.Need-number-at-requires
-number-at-requires c κs = search needs
+-- ---- what is known on the way
 
-enum-known-value : tie.Need-enum-known-value
-enum-known-value c = search needs
+abbrev start : tie.After-number-at → tie.Start
+start c = c .before .before
 
 -- the number that is read, and the index after it
 abbrev value-of : tie.After-value → ℕ
@@ -23,12 +22,18 @@ value-of c = c .value .given .0 .0
 abbrev next-of : tie.After-value → ℕ
 next-of c = let fields = c .value .given .0 in fields .1 .0
 
-read : (c : tie.After-value)
-    → let a = c .before .before .before .before .args in
-    NumberRead (a .line .now) (a .at) (value-of c) (next-of c)
-read c =
-    let a = c .before .before .before .before .args in
-    subst (NumberIs (a .line .now) (a .at)) (c .value .given .1) (c .before .before .number-at .ensures)
+read : (c : tie.After-value) → let a = start (c .before .before) .args in NumberRead (a .line .now) (a .at) (value-of c) (next-of c)
+read c = subst (NumberIs _ _) (c .value .given .1) (c .before .before .number-at .ensures)
+
+-- where it is read
+abbrev valued : tie.After-starts-with → tie.After-value
+valued c = c .before .before .before
+
+number-at-requires : tie.Need-number-at-requires
+number-at-requires c κs = search needs
+
+enum-known-value : tie.Need-enum-known-value
+enum-known-value c = search needs
 
 slice-aggregate-starts-with : tie.Need-slice-aggregate-starts-with
 slice-aggregate-starts-with c = search needs
@@ -47,28 +52,21 @@ enum-told c = search needs
 
 returns : tie.Need-returns
 returns c =
-    let w = c .before .before in
-    let v = w .before .before .before in
-    let a = v .before .before .before .before .args in
+    let asked = c .before .before in
     c .number-field .ensures
-    ∙ ap (numberField (a .op) (value-of v)) (sym (found (w .starts-with .ensures) (c .before .if1 .taken)))
-    ∙ sym (slot-read (a .op) (read v))
+    ∙ ap (numberField _ _) (sym (found (asked .starts-with .ensures) (c .before .if1 .taken)))
+    ∙ sym (slot-read _ (read (valued asked)))
 
 returns-2 : tie.Need-returns-2
 returns-2 c =
-    let w = c .before in
-    let v = w .before .before .before in
-    let a = v .before .before .before .before .args in
-    sym
-    (slot-read (a .op) (read v)
-    ∙ ap (numberField (a .op) (value-of v)) (missing (w .starts-with .ensures) (c .if1 .left))
-    ∙ no-count-field (a .op) (value-of v))
+    let asked = c .before in
+    sym (slot-read _ (read (valued asked)) ∙ ap (numberField _ _) (missing (asked .starts-with .ensures) (c .if1 .left)) ∙ no-count-field _ _)
 
 returns-3 : tie.Need-returns-3
 returns-3 c =
-    let a = c .before .before .before .before .args in
-    let unread = subst (NumberIs (a .line .now) (a .at)) (c .enum-told .given .1) (c .before .before .number-at .ensures) in
-    sym (no-slot (a .op) (a .line .now) (a .at) unread)
+    let number = c .before .before in
+    let a = start number .args in
+    sym (no-slot _ (a .line .now) (a .at) (subst (NumberIs _ _) (c .enum-told .given .1) (number .number-at .ensures)))
 
 pub slot-number-spec : {M : Type 1} → statement M
 slot-number-spec =

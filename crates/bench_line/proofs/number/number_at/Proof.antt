@@ -17,8 +17,39 @@ Inv-loop line at value₀ next₀ value next = SoFar line at value next
 abbrev μ-loop : tie.MeasureT-loop
 μ-loop line at value₀ next₀ value next = length line - next
 
+-- ---- what is known on the way
+
+abbrev line-at : tie.At-loop Inv-loop μ-loop → List ℕ
+line-at c = c .before .before .args .line .now
+
+-- where a turn begins, at a digit
+abbrev turn : tie.Then1 Inv-loop μ-loop → tie.At-loop Inv-loop μ-loop
+turn c = c .before .before
+
+digit : (c : tie.Then1 Inv-loop μ-loop) → digitAt (line-at (turn c)) (turn c .loop .next) ≡ true
+digit c = sym (c .before .digit-at .ensures) ∙ c .if1 .taken
+
+inside : (c : tie.Then1 Inv-loop μ-loop) → turn c .loop .next < length (line-at (turn c))
+inside c = digit-in _ _ (digit c)
+
+low : (c : tie.Then1 Inv-loop μ-loop) → 48 ≤ getD (line-at (turn c)) (turn c .loop .next) 0
+low c = digit-low _ _ (digit c)
+
+high : (c : tie.Then1 Inv-loop μ-loop) → getD (line-at (turn c)) (turn c .loop .next) 0 ≤ 57
+high c = digit-high _ _ (digit c)
+
+small : (c : tie.Else2 Inv-loop μ-loop) → turn (c .before) .loop .value < 10000
+small c = four-digits (turn (c .before) .loop .inv) (c .if2 .left)
+
+-- where the loop has ended, at no digit
+abbrev ended : tie.Else1 Inv-loop μ-loop → tie.At-loop Inv-loop μ-loop
+ended c = c .before .before
+
+no-digit : (c : tie.Else1 Inv-loop μ-loop) → digitAt (line-at (ended c)) (ended c .loop .next) ≡ false
+no-digit c = sym (c .before .digit-at .ensures) ∙ c .if1 .left
+
 loop-holds : tie.Need-loop-holds Inv-loop μ-loop
-loop-holds c = none-yet (c .before .args .line .now) (c .before .args .at) (c .before .pre)
+loop-holds c = none-yet _ _ (c .before .pre)
 
 digit-at-requires : tie.Need-digit-at-requires Inv-loop μ-loop
 digit-at-requires c κs = search needs
@@ -26,37 +57,8 @@ digit-at-requires c κs = search needs
 sub-if2 : tie.Need-sub-if2 Inv-loop μ-loop
 sub-if2 c = omega arith
 
--- in a turn: the line, the place, and that a digit stands there
-abbrev line-of : tie.Then1 Inv-loop μ-loop → List ℕ
-line-of c = c .before .before .before .before .args .line .now
-
-abbrev value-of : tie.Then1 Inv-loop μ-loop → ℕ
-value-of c = c .before .before .loop .value
-
-abbrev next-of : tie.Then1 Inv-loop μ-loop → ℕ
-next-of c = c .before .before .loop .next
-
-digit : (c : tie.Then1 Inv-loop μ-loop) → digitAt (line-of c) (next-of c) ≡ true
-digit c = sym (c .before .digit-at .ensures) ∙ c .if1 .taken
-
-inside : (c : tie.Then1 Inv-loop μ-loop) → next-of c < length (line-of c)
-inside c = digit-in (line-of c) (next-of c) (digit c)
-
-low : (c : tie.Then1 Inv-loop μ-loop) → 48 ≤ getD (line-of c) (next-of c) 0
-low c = digit-low (line-of c) (next-of c) (digit c)
-
-high : (c : tie.Then1 Inv-loop μ-loop) → getD (line-of c) (next-of c) 0 ≤ 57
-high c = digit-high (line-of c) (next-of c) (digit c)
-
-small : (c : tie.Else2 Inv-loop μ-loop) → value-of (c .before) < 10000
-small c =
-    let t = c .before in
-    four-digits (t .before .before .loop .inv) (c .if2 .left)
-
 returns : tie.Need-returns Inv-loop μ-loop
-returns c =
-    let t = c .before in
-    six-digits (t .before .before .loop .inv) (digit t) (c .if2 .taken)
+returns c = six-digits (turn (c .before) .loop .inv) (digit (c .before)) (c .if2 .taken)
 
 mul-value : tie.Need-mul-value Inv-loop μ-loop
 mul-value c = omega (arith, small c)
@@ -82,18 +84,13 @@ loop-less c = omega (arith, inside (c .before .before))
 loop-again : tie.Need-loop-again Inv-loop μ-loop
 loop-again c =
     let t = c .before .before in
-    one-more (t .before .before .loop .inv) (digit t) (c .before .if2 .left)
-
-end : (c : tie.Else1 Inv-loop μ-loop) → digitAt (c .before .before .before .before .args .line .now) (c .before .before .loop .next) ≡ false
-end c = sym (c .before .digit-at .ensures) ∙ c .if1 .left
+    one-more (turn t .loop .inv) (digit t) (c .before .if2 .left)
 
 returns-2 : tie.Need-returns-2 Inv-loop μ-loop
-returns-2 c =
-    no-digits (c .before .before .before .loop .inv) (end (c .before)) (c .if3 .taken)
+returns-2 c = no-digits (ended (c .before) .loop .inv) (no-digit (c .before)) (c .if3 .taken)
 
 returns-3 : tie.Need-returns-3 Inv-loop μ-loop
-returns-3 c =
-    number-read (c .before .before .before .loop .inv) (end (c .before)) (c .if3 .left)
+returns-3 c = number-read (ended (c .before) .loop .inv) (no-digit (c .before)) (c .if3 .left)
 
 pub number-at-spec : {M : Type 1} → statement M
 number-at-spec =

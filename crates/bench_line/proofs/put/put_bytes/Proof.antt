@@ -52,10 +52,7 @@ same-length : tie.Need-same-length Inv-loop μ-loop
 same-length c = c .before .loop .inv .2
 
 returns : tie.Need-returns Inv-loop μ-loop
-returns c =
-    let l = c .before in
-    let a = l .before .args in
-    put-paste (a .out .now) (a .at) (a .word .now) (l .loop .i) (l .loop .out) (omega arith) (l .loop .inv .1)
+returns c = put-paste _ _ _ _ _ (omega arith) (c .before .loop .inv .1)
 
 pub put-bytes-spec : {M : Type 1} → statement M
 put-bytes-spec =
