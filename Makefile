@@ -5,6 +5,8 @@
 # make clean                  removes what these made
 
 FILE ?= bench/example.txt
+# checks that rt runs at a time. It waits for all of a batch, so batches larger than the number of cores leave fewer idle
+JOBS ?= 6
 SEEDS ?= 20
 REFERENCE := reference/target/release/reference
 
@@ -27,7 +29,7 @@ stored-tests: reference
 	bench/check-causes
 
 test: reference-test stored-tests
-	rt ci
+	RT_JOBS=$(JOBS) rt ci
 
 soak: program reference
 	@bench/soak $(SEEDS)
