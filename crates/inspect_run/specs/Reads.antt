@@ -6,10 +6,6 @@ use Rattle.inspect_run.specs.declared.lines.Reader.{Reader}
 abbrev pub kept : ℕ
 kept = 65
 
--- the most lines that are read
-abbrev pub maxLines : ℕ
-maxLines = 60000
-
 -- what stands for each number that doesn't fit 32 bits
 abbrev pub tooLarge : ℕ
 tooLarge = 4294967296

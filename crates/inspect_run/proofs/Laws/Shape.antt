@@ -7,13 +7,14 @@ use lib.ListN.{length, length-map}
 use mir.Val.{Val}
 use denote.Laws.{Is}
 use denote.Struct.Field.{u32-field, array-field}
+use Rattle.bitmap.specs.Sizes.{maxCount}
 use Rattle.inspect_run.specs.declared.fixture.Fixture.{Fixture}
-use Rattle.inspect_run.specs.Sized.{Sized, maxLength, maxPlaces}
+use Rattle.inspect_run.specs.Sized.{Sized, maxLength}
 use Rattle.inspect_run.proofs.fixture.Fixture.{the-row as fixture-row}
 
 pub record Shaped (fixture : Fixture) : Type 0 where
   pub disk : length (fixture .disk) ≡ maxLength
-  pub list : length (fixture .list) ≡ maxPlaces
+  pub list : length (fixture .list) ≡ maxCount
 
 -- of an array of n words
 words-length : (n : ℕ) (words : List ℕ) (vs : List Val) → Is (array-field u32-field n .row) (map (λ w. w) words) vs → length words ≡ n
@@ -28,7 +29,7 @@ shaped fixture vs good =
     let from-length = fields .1 .1 in
     record {
       disk = words-length maxLength (fixture .disk) _ (fields .1 .0);
-      list = words-length maxPlaces (fixture .list) _ (from-length .1 .0);
+      list = words-length maxCount (fixture .list) _ (from-length .1 .0);
     }
 
 pub record Parts (fixture : Fixture) : Type 0 where

@@ -4,9 +4,10 @@ use native.Mathlib.Omega.{arith}
 use mathlib.Core.Path.{_≡_, sym}
 use lib.ListN.{length}
 use lib.Seq.{length-take-le}
+use Rattle.model.specs.Bench.{maxLines}
 use Rattle.printing.specs.Waits.{Waits}
 use Rattle.inspect_run.specs.Sized.{Sized}
-use Rattle.inspect_run.specs.Reads.{Reading, kept, maxLines}
+use Rattle.inspect_run.specs.Reads.{Reading, kept}
 use borrow.Author.Needs.{needs}
 use Rattle.inspect_run.proofs.answer_all.Statement.{statement}
 use Rattle.inspect_run.proofs.answer_all.Tie as tie
