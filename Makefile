@@ -1,7 +1,7 @@
 # make bench [FILE=history]   proves and builds the bench program and runs it on document 01's example, or on a file of bench lines
 # make test                   everything: the second allocator's tests, the stored tests it makes, then the prover's gate
 # make soak [SEEDS=n]         n more random histories through both allocators; the first difference is shown
-# make speed                  both on the same history, in turn
+# make speed                  both timed on the same histories and on each kind of call; fails if a goal of docs/SPEED.md is missed
 # make clean                  removes what these made
 
 FILE ?= bench/example.txt
