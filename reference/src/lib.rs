@@ -20,13 +20,11 @@ pub mod bench;
 pub mod damage;
 pub mod history;
 pub mod inspector;
-pub mod kinds;
 pub mod line;
 pub mod line_reader;
 pub mod program;
 pub mod sweep;
 pub mod test_line;
-pub mod timing;
 
 pub use bitmap::{majority, Bitmap};
 pub use block_set::BlockSet;

@@ -1,7 +1,5 @@
 //! The form of a bench line: `op=.. seat=.. n=..`.
 
-use std::fmt::{self, Display, Formatter};
-
 /// The longest line, byte 10 not counted.
 pub const MAX_LINE_BYTES: usize = 64;
 pub const MAX_DIGITS: usize = 5;
@@ -61,12 +59,6 @@ pub struct Line {
     pub operation: Operation,
     pub slot: u32,
     pub number: u32,
-}
-
-impl Display for Line {
-    fn fmt(&self, output: &mut Formatter) -> fmt::Result {
-        write!(output, "op={} seat={} n={}", self.operation.word(), self.slot, self.number)
-    }
 }
 
 /// Reads a line without its byte 10. A line that isn't in form gives nothing.

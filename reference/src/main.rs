@@ -1,9 +1,7 @@
-//! The program `reference`: the bench and the test programs, the makers of their inputs, the timer.
+//! The program `reference`: the bench and the test programs, and the makers of their inputs.
 
 use reference::damage::Damage;
 use reference::history::{History, Shape};
-use reference::kinds::Kinds;
-use reference::timing::{self, Times};
 use reference::{program, sweep};
 use std::io::{self, BufWriter, ErrorKind, Write};
 use std::process::ExitCode;
@@ -14,10 +12,7 @@ const USAGE: &str = "usage: reference bench
        reference sweep
        reference history SEED LINES BLOCKS [--malformed]
        reference damage SEED LINES
-       reference kinds BLOCKS LINES
-       reference time FILE [ROUNDS] [--kinds]
-BLOCKS is 1 to 4096, or in a history 0 for a random number; ROUNDS is 1 or more, 10 if not given";
-const DEFAULT_ROUNDS: &str = "10";
+BLOCKS is 1 to 4096, or 0 for a random number";
 
 fn main() -> ExitCode {
     let arguments: Vec<String> = std::env::args().skip(1).collect();
@@ -29,11 +24,6 @@ fn main() -> ExitCode {
         ["history", seed, lines, blocks] => print_history(seed, lines, blocks, false),
         ["history", seed, lines, blocks, "--malformed"] => print_history(seed, lines, blocks, true),
         ["damage", seed, lines] => print_damage(seed, lines),
-        ["kinds", blocks, lines] => print_kinds(blocks, lines),
-        ["time", file] => print_times(file, DEFAULT_ROUNDS, false),
-        ["time", file, "--kinds"] => print_times(file, DEFAULT_ROUNDS, true),
-        ["time", file, rounds] => print_times(file, rounds, false),
-        ["time", file, rounds, "--kinds"] => print_times(file, rounds, true),
         _ => Err(usage_error()),
     };
     match result {
@@ -56,11 +46,6 @@ fn print_damage(seed: &str, lines: &str) -> io::Result<()> {
     print_lines(Damage::new(number(seed)?), lines)
 }
 
-fn print_kinds(blocks: &str, lines: &str) -> io::Result<()> {
-    let kinds = Kinds::new(number(blocks)?).ok_or_else(usage_error)?;
-    print_lines(kinds.map(|line| line.to_string().into_bytes()), lines)
-}
-
 /// Prints the first lines of an endless sequence.
 fn print_lines(sequence: impl Iterator<Item = Vec<u8>>, lines: &str) -> io::Result<()> {
     let lines: usize = number(lines)?;
@@ -68,25 +53,6 @@ fn print_lines(sequence: impl Iterator<Item = Vec<u8>>, lines: &str) -> io::Resu
     for line in sequence.take(lines) {
         output.write_all(&line)?;
         output.write_all(b"\n")?;
-    }
-    output.flush()
-}
-
-/// Prints the nanoseconds of a line, and those of each kind of call.
-fn print_times(file: &str, rounds: &str, kinds: bool) -> io::Result<()> {
-    let rounds = number(rounds)?;
-    if rounds == 0 {
-        return Err(usage_error());
-    }
-    let input = std::fs::read(file)?;
-    let mut output = io::stdout().lock();
-    let Times { calls, mean, fastest } = timing::time_lines(&input, rounds)?;
-    writeln!(output, "lines={calls} rounds={rounds} mean={mean:.1} fastest={fastest:.1}")?;
-    if kinds {
-        for (kind, Times { calls, mean, fastest }) in timing::time_kinds(&input, rounds)? {
-            let word = kind.word();
-            writeln!(output, "op={word} calls={calls} mean={mean:.1} fastest={fastest:.1}")?;
-        }
     }
     output.flush()
 }

@@ -9,7 +9,7 @@ use std::fmt::Write as _;
 use std::io::{self, BufWriter, Read, Write};
 
 /// Lines past these aren't read.
-pub const MAX_LINES: u32 = 60_000;
+const MAX_LINES: u32 = 60_000;
 const OUTPUT_PIECE_BYTES: usize = 1 << 16;
 
 /// Reads bench lines and writes an answer line for each.
