@@ -1,3 +1,4 @@
--- Available blocks, and what taking them leaves.
+-- Available blocks, counts of them, and what taking them leaves.
 pub mod Available
+pub mod Count
 pub mod Take

@@ -1,12 +1,13 @@
 // Counts of a bitmap's bits and of a volume's available blocks, a word at a time.
 ghost use mathlib.Core.Path.{_≡_};
-ghost use Prim.Native.Nat.{_+_, _≤_, _<_};
+ghost use Prim.Native.Nat.{_+_, _/_, _≤_};
 ghost use lib.ListN.{length};
-ghost use Rattle.bitmap.specs.Sizes.{maxBlocks, wordsFor};
+ghost use Rattle.bitmap.specs.Sizes.{maxBlocks, wordBits};
 ghost use Rattle.bitmap.specs.Bits.{IsBitmap};
 ghost use Rattle.bitmap.specs.Blocks.{availableBlocks};
 ghost use Rattle.bitmap.proofs.Laws.Count.{onesOf};
 ghost use Rattle.available.specs.Available.{countFrom};
+ghost use Rattle.available.specs.Count.{CanCount, IsCount};
 use crate::available::available_word;
 use bitmap::Bitmap;
 
@@ -22,33 +23,63 @@ pub fn count_ones(words: &[u32; 128]) -> u32
     count
 }
 
-// The number of available blocks of word k.
-fn count_word(sam: &[u32; 128], com: &[u32; 128], blocks: u32, k: usize) -> u32
-    requires { ⌜ IsBitmap (now sam) ⌝ }
-    requires { ⌜ IsBitmap (now «com») ⌝ }
-    requires { ⌜ blocks ≤ maxBlocks ⌝ }
-    requires { ⌜ k < wordsFor blocks ⌝ }
-    ensures { λ r. ⌜ r + countFrom blocks (now (sam .entry)) (now («com» .entry)) (k + 1) ≡ countFrom blocks (now (sam .entry)) (now («com» .entry)) k ⌝ }
+// The number of available blocks of word k, which the volume fills.
+fn count_one(sam: &[u32; 128], com: &[u32; 128], k: usize) -> u32
+    requires { ⌜ CanCount (now sam) (now «com») k (k + 1) ⌝ }
+    ensures { λ r. ⌜ IsCount (now (sam .entry)) (now («com» .entry)) k (k + 1) r ⌝ }
 {
-    u32::count_ones(available_word(sam, com, blocks, k))
+    u32::count_ones(!(sam[k] | com[k]))
 }
 
-// The number of available blocks of the words from lo up to hi: those of the left half and those of the right.
-fn count_words(sam: &[u32; 128], com: &[u32; 128], blocks: u32, lo: usize, hi: usize) -> u32
+// The number of available blocks of the two words from k on, which the volume fills.
+fn count_two(sam: &[u32; 128], com: &[u32; 128], k: usize) -> u32
+    requires { ⌜ CanCount (now sam) (now «com») k (k + 2) ⌝ }
+    ensures { λ r. ⌜ IsCount (now (sam .entry)) (now («com» .entry)) k (k + 2) r ⌝ }
+{
+    count_one(sam, com, k) + count_one(sam, com, k + 1)
+}
+
+// The number of available blocks of the four words from k on, which the volume fills.
+fn count_four(sam: &[u32; 128], com: &[u32; 128], k: usize) -> u32
+    requires { ⌜ CanCount (now sam) (now «com») k (k + 4) ⌝ }
+    ensures { λ r. ⌜ IsCount (now (sam .entry)) (now («com» .entry)) k (k + 4) r ⌝ }
+{
+    count_two(sam, com, k) + count_two(sam, com, k + 2)
+}
+
+// The number of available blocks of the words from lo up to hi, which the volume fills: those of the left half and
+// those of the right. Two words and four are written out, with no branch, so that the compiler counts them at once.
+fn count_words(sam: &[u32; 128], com: &[u32; 128], lo: usize, hi: usize) -> u32
+    requires { ⌜ CanCount (now sam) (now «com») lo hi ⌝ }
+    ensures { λ r. ⌜ IsCount (now (sam .entry)) (now («com» .entry)) lo hi r ⌝ }
+{
+    let length = hi - lo;
+    if length == 1 {
+        return count_one(sam, com, lo);
+    }
+    if length == 2 {
+        return count_two(sam, com, lo);
+    }
+    if length == 4 {
+        return count_four(sam, com, lo);
+    }
+    let middle = lo + length / 2;
+    let left = count_words(sam, com, lo, middle);
+    let right = count_words(sam, com, middle, hi);
+    left + right
+}
+
+// The number of available blocks after the words that the volume fills: those of the word that it fills in part.
+fn count_rest(sam: &[u32; 128], com: &[u32; 128], blocks: u32) -> u32
     requires { ⌜ IsBitmap (now sam) ⌝ }
     requires { ⌜ IsBitmap (now «com») ⌝ }
     requires { ⌜ blocks ≤ maxBlocks ⌝ }
-    requires { ⌜ lo < hi ⌝ }
-    requires { ⌜ hi ≤ wordsFor blocks ⌝ }
-    ensures { λ r. ⌜ r + countFrom blocks (now (sam .entry)) (now («com» .entry)) hi ≡ countFrom blocks (now (sam .entry)) (now («com» .entry)) lo ⌝ }
+    ensures { λ r. ⌜ r ≡ countFrom blocks (now (sam .entry)) (now («com» .entry)) (blocks / wordBits) ⌝ }
 {
-    if hi - lo == 1 {
-        return count_word(sam, com, blocks, lo);
+    if blocks % Bitmap::WORD_BITS == 0 {
+        return 0;
     }
-    let middle = lo + (hi - lo) / 2;
-    let left = count_words(sam, com, blocks, lo, middle);
-    let right = count_words(sam, com, blocks, middle, hi);
-    left + right
+    u32::count_ones(available_word(sam, com, blocks, (blocks / Bitmap::WORD_BITS) as usize))
 }
 
 // The number of available blocks of a volume.
@@ -58,9 +89,10 @@ pub fn count_available(sam: &[u32; 128], com: &[u32; 128], blocks: u32) -> u32
     requires { ⌜ blocks ≤ maxBlocks ⌝ }
     ensures { λ r. ⌜ r ≡ length (availableBlocks blocks (now (sam .entry)) (now («com» .entry))) ⌝ }
 {
-    if blocks == 0 {
-        return 0;
+    let whole = blocks / Bitmap::WORD_BITS;
+    let rest = count_rest(sam, com, blocks);
+    if whole == 0 {
+        return rest;
     }
-    let words = (blocks + (Bitmap::WORD_BITS - 1)) / Bitmap::WORD_BITS;
-    count_words(sam, com, blocks, 0, words as usize)
+    count_words(sam, com, 0, whole as usize) + rest
 }

@@ -15,6 +15,8 @@ use prefix::starts_with;
 use put::put_bytes;
 use put::put_field;
 
+// The most lines that are read.
+pub const MAX_LINES: u32 = 60000;
 // The most bytes of a line.
 const MAX_LINE: usize = 64;
 

@@ -1,2 +1,2 @@
--- Lemmas of the program.
+-- Lemmas of the whole program.
 pub mod Laws

@@ -1,2 +1,2 @@
--- Lemmas of the step.
+-- Lemmas of the lines.
 pub mod Laws

@@ -1,7 +1,5 @@
-// Three bitmaps combined word by word: what a commit, a rollback and another slot's commit make of them.
+// Three bitmaps combined word by word: what a rollback and another slot's commit make of them.
 ghost use mathlib.Core.Path.{_≡_};
-ghost use lib.ListN.{length};
-ghost use Rattle.bitmap.specs.Sizes.{bitmapWords};
 ghost use Rattle.bitmap.specs.Bits.{IsBitmap};
 ghost use Rattle.bitmap.proofs.Laws.Majority.{majorityWord};
 ghost use Rattle.bitops.specs.Combine.{rollbackWord, refreshWord, zip3};
@@ -20,19 +18,6 @@ fn refresh_word(old: u32, new: u32, other: u32) -> u32
 {
     let changed = old ^ new;
     (new & changed) | (other & !changed)
-}
-
-// Puts the majority of SAM, COM and TAM into out: the SAM that a commit makes.
-pub fn majority(out: &mut [u32; 128], sam: &[u32; 128], com: &[u32; 128], tam: &[u32; 128])
-    requires { ⌜ length (now out) ≡ bitmapWords ⌝ }
-    requires { ⌜ IsBitmap (now sam) ⌝ }
-    requires { ⌜ IsBitmap (now «com») ⌝ }
-    requires { ⌜ IsBitmap (now tam) ⌝ }
-    ensures { λ _. ⌜ now (out .exit) ≡ zip3 majorityWord (now (sam .entry)) (now («com» .entry)) (now (tam .entry)) ⌝ }
-{
-    for k in 0..Bitmap::WORDS {
-        out[k] = majority_word(sam[k], com[k], tam[k]);
-    }
 }
 
 // Makes COM the majority of COM, SAM and the complement of TAM: what a rollback leaves.

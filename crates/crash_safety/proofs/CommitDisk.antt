@@ -76,11 +76,11 @@ module _ (memory : Memory) (disk : List ℕ) (s : ℕ) (parts : ValidParts memor
 
   -- the next store on a disk that is as k stores leave it
   pub next-disk : (k : ℕ)
-      → sameWords disk (after k (commitStores entries) (baseImage memory disk)) ≡ true
+      → sameWords disk (after k (commitStores entries) (baseImage (memory .blocks) (memory .sam .words) disk)) ≡ true
       → writes (take 1 (drop k (commitStores entries))) disk ≡ diskAfter memory disk s (k + 1)
   next-disk k e =
-      ap (writes (take 1 (drop k (commitStores entries)))) (same-words disk (after k (commitStores entries) (baseImage memory disk)) e)
-      ∙ store-next-one k (commitStores entries) (baseImage memory disk)
+      ap (writes (take 1 (drop k (commitStores entries)))) (same-words disk (after k (commitStores entries) (baseImage (memory .blocks) (memory .sam .words) disk)) e)
+      ∙ store-next-one k (commitStores entries) (baseImage (memory .blocks) (memory .sam .words) disk)
 
   pub next-small : (k : ℕ) → Small disk → Small (writes (take 1 (drop k (commitStores entries))) disk)
   unfolding entriesOf

@@ -14,9 +14,8 @@ use Rattle.model.specs.declared.memory.Pending.the-variants.{Nothing, Commit, R
 use Rattle.model.specs.Errors.{unlessRefused}
 use Rattle.model.specs.Memory.{withPending}
 use Rattle.model.specs.Commit.{committed}
-use Rattle.model.specs.Pending.{storesDone, storesDue, oneMoreDone, finished, storesLeft}
+use Rattle.model.specs.Pending.{storesDone, storesDue, oneMoreDone, finished, storesLeft, isNothing}
 use Rattle.model.specs.Valid.{pendingValid}
-use Rattle.model.specs.Causes.{isNothing}
 use Rattle.model.specs.Calls.Storing.{storeError, advanced, storeMemory}
 use Rattle.model.specs.Completion.{State, StoresAccepted, afterStores, completed}
 use Rattle.model.specs.Outcome.{outcome, storeCall}

@@ -7,7 +7,7 @@ use mathlib.Core.Option.{Option, none}
 use mathlib.Core.List.{List}
 use lib.ListN.{getD, replicate}
 use lib.Dec.{eqb}
-use Rattle.bitmap.specs.Sizes.{slotCount}
+use Rattle.bitmap.specs.Sizes.{slotCount, blocksInRange}
 use Rattle.bitmap.specs.Bits.{bit}
 use Rattle.bitmap.specs.Blocks.{member}
 use Rattle.model.specs.declared.error.Error.{Error}
@@ -16,12 +16,11 @@ use Rattle.model.specs.declared.memory.Slot.{Slot}
 use Rattle.model.specs.declared.memory.Pending.{Pending}
 use Rattle.model.specs.Memory.{zeroMemory, idleSlot, quietMemory, bitmap}
 use Rattle.model.specs.Errors.{unlessRefused}
-use Rattle.model.specs.Answers.{storesNumber}
-use Rattle.model.specs.Valid.{valid, blocksInRange}
+use Rattle.model.specs.Answers.{storesNumber, statusNumber}
+use Rattle.model.specs.Valid.{valid}
 use Rattle.model.specs.Disk.{diskBlocks, logLength, durable}
 use Rattle.model.specs.Calls.Opening.{openError, recoveryDue, recoveryPending, opened, openAnswer, openMemory}
 use Rattle.model.specs.Calls.Status.{statusAnswer}
-use Rattle.model.specs.Answers.{statusNumber}
 use Rattle.model.specs.Outcome.{outcome, openCall, statusCall, crashCall}
 use Rattle.model.proofs.Laws.Numbers.{numberOf, stores-number}
 use Rattle.model.proofs.Laws.Durable.{durable-length}

@@ -6,10 +6,9 @@ use Rattle.model.specs.declared.memory.Pending.{Pending}
 use Rattle.model.specs.declared.memory.Pending.the-variants.{Nothing, Commit, Recovery}
 use Rattle.model.specs.Sizes.{diskWords}
 use Rattle.model.specs.Stores.{writes, checkpointStores}
-use Rattle.model.specs.Pending.{storesDone}
+use Rattle.model.specs.Pending.{storesDone, isNothing}
 use Rattle.model.specs.Valid.{valid, pendingValid}
 use Rattle.model.specs.Disk.{dueStores, diskMatches}
-use Rattle.model.specs.Causes.{isNothing}
 use Rattle.model.specs.Calls.Storing.{storeError, stillDue, advanced, nextStored, storeAnswer, storeMemory, storeDisk}
 use Rattle.model.specs.Outcome.{outcome, storeCall}
 use Rattle.model.proofs.Laws.Numbers.{stores-number}
@@ -44,7 +43,7 @@ by-pending w i v size (Commit s k due) e valid-pending matching tied =
     (commit-parts (w .memory) s k due valid-pending) size matching tied
 by-pending w i v size (Recovery k due) e valid-pending matching tied =
     let related = i .related v in
-    recovery-store-keeps w k due i (related .sam) (related .slots) (matching-parts (w .memory) (w .disk) k due matching) tied
+    recovery-store-keeps w k due i (related .sam) (related .slots) (matching-parts (w .memory .blocks) (w .memory .sam .words) (w .disk) k due matching) tied
 
 pub store-keeps : (w : World) → Invariant w → Invariant (step storeCall w)
 unfolding step events enterAll outcome entered storeMemory storeDisk storeAnswer nextStored

@@ -53,7 +53,7 @@ module _ (w : World) (s k due : ℕ) (i : Invariant w)
     (eight : length (w .memory .slots) ≡ slotCount)
     (commit : CommitParts (w .memory) s k due)
     (size : length (w .disk) ≡ diskWords)
-    (matches : sameWords (w .disk) (after k (commitStores (entriesOf (w .memory) s)) (baseImage (w .memory) (w .disk))) ≡ true) where
+    (matches : sameWords (w .disk) (after k (commitStores (entriesOf (w .memory) s)) (baseImage (w .memory .blocks) (w .memory .sam .words) (w .disk))) ≡ true) where
   -- d
   abbrev d : ℕ
   d = changedOf (w .memory) s

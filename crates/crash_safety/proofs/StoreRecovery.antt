@@ -29,7 +29,7 @@ use Rattle.crash_safety.proofs.Small.{writes-small, take-small, drop-sm
 module _ (w : World) (k due : ℕ) (i : Invariant w)
     (sam : IsBitmap (w .memory .sam .words))
     (eight : length (w .memory .slots) ≡ slotCount)
-    (m : RecoveryMatches (w .memory) (w .disk) k due)
+    (m : RecoveryMatches (w .memory .blocks) (w .memory .sam .words) (w .disk) k due)
     (plain : Plain (w .memory) (w .ledger) none) where
   abbrev stored : List ℕ
   stored = checkpointNext closingStores (w .disk) k
@@ -40,7 +40,7 @@ module _ (w : World) (k due : ℕ) (i : Invariant w)
     where
       go : Dec (logLength (w .disk) ≤ k) → (openError stored ≡ none) × ((b : ℕ) → bit (durable stored) b ≡ member b (w .ledger .allocated))
       go (yes h) =
-          let stands : durable (w .disk) ≡ diskBitmap (w .disk) = rewritten-durable closingStores (w .disk) (i .opens) (w .memory) k due h m in (
+          let stands : durable (w .disk) ≡ diskBitmap (w .disk) = rewritten-durable closingStores (w .disk) (i .opens) _ _ k due h m in (
             closing-opens closingStores (w .disk) (i .opens) k h closes,
             λ b.
                 ap (λ (words : List ℕ). bit words b) (closing-durable closingStores (w .disk) (i .opens) k h closes stands ∙ sym stands) ∙ i .kept b,

@@ -56,7 +56,7 @@ module _ (w : World) (i : Invariant w) where
   bitmap-stands : durable (stored n opening .disk) ≡ diskBitmap (stored n opening .disk)
   unfolding diskMatches
   bitmap-stands =
-      quiet-durable (stored n opening .memory) (stored n opening .disk)
+      quiet-durable (stored n opening .memory .blocks) (stored n opening .memory .sam .words) (stored n opening .disk)
       (recovered .invariant .related (recovered .in-use .is-valid) .sam .size)
       (sym (ap (diskMatches (stored n opening .memory) (stored n opening .disk)) (nothing-pending n opening recovered)) ∙ recovered .in-use .matches)
 

@@ -30,14 +30,6 @@ pub fn contents(disk: &[u32], i: usize) -> u32
     disk[LOG_AT + 2 * i + 1]
 }
 
-// W: the words that hold so many blocks.
-fn words_for(blocks: u32) -> u32
-    requires { ⌜ blocks ≤ maxBlocks ⌝ }
-    ensures { λ r. ⌜ r ≡ wordsFor blocks ⌝ }
-{
-    (blocks + Bitmap::WORD_BITS - 1) / Bitmap::WORD_BITS
-}
-
 // Whether a word has no bits from this one on.
 fn below(word: u32, bits: u32) -> bool
     ensures { λ r. ⌜ r ≡ ltb word (2 ^ bits) ⌝ }
@@ -56,7 +48,7 @@ fn entry_valid(blocks: u32, low: u32, number: u32, contents: u32) -> bool
     if number < low {
         return false;
     }
-    if words_for(blocks) <= number {
+    if Bitmap::words_for(blocks) <= number {
         return false;
     }
     below(contents, blocks - Bitmap::WORD_BITS * number)
@@ -70,7 +62,7 @@ pub fn log_valid(disk: &[u32]) -> bool
 {
     let blocks = disk[BLOCKS_AT];
     let entries = disk[LENGTH_AT];
-    if words_for(blocks) < entries {
+    if Bitmap::words_for(blocks) < entries {
         return false;
     }
     let count = entries as usize;

@@ -1,3 +1,2 @@
 -- Bounds of the program's own counters.
-pub mod Sized
 pub mod Reads

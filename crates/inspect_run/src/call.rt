@@ -1,25 +1,25 @@
 // The call that a bench line asks for.
-ghost use Rattle.inspect_run.specs.Sized.{Sized};
-use crate::fixture::Fixture;
-use crate::fixture::Step;
-use allocator::allocate::allocate;
-use allocator::commit::commit;
-use allocator::deallocate::deallocate;
-use allocator::format::format;
-use allocator::open::open;
-use allocator::precommit::precommit;
-use allocator::rollback::rollback;
-use allocator::start::start;
-use allocator::status::status;
-use allocator::store::store;
-use bench_step::next::Next;
-use bench_step::next::changed;
-use bench_step::next::granted;
-use bench_step::next::measured;
-use bench_step::next::stored;
+ghost use Rattle.inspect_state.specs.Sized.{Sized};
+use crate::next::Next;
+use crate::next::changed;
+use crate::next::granted;
+use crate::next::measured;
+use crate::next::stored;
+use allocate::allocate;
+use commit::commit;
+use deallocate::deallocate;
+use inspect_state::fixture::Fixture;
+use inspect_state::fixture::Step;
 use model::line::Line;
 use model::line::Op;
 use model::memory::Memory;
+use slots::precommit::precommit;
+use slots::rollback::rollback;
+use slots::start::start;
+use status::status;
+use store::store;
+use volume::format::format;
+use volume::open::open;
 
 // Format keeps the memory.
 fn format_call(memory: Memory, disk: &mut [u32], n: u32) -> Next {

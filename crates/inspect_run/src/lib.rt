@@ -1,27 +1,21 @@
 // The test program `inspect` (docs/TEST-LINES.md): bench lines, and further lines that damage what the calls are lent.
 // It is a library so that several programs can be it, each with its own stored input and output.
-mod alter;
 mod call;
-mod damage;
-mod fixture;
-mod further;
 mod line;
 mod lines;
-mod numbers;
+mod next;
 mod show;
 
 ghost use mathlib.Core.Path.{_≡_};
 ghost use lib.ListN.{length};
 ghost use Rattle.printing.specs.Waits.{Waits};
 ghost use Rattle.inspect_run.specs.Reads.{kept};
-use fixture::Fixture;
+use bench_line::MAX_LINES;
+use inspect_state::fixture::Fixture;
 use line::answer;
 use lines::Reader;
 use lines::next_line;
 use printing::flush;
-
-// The most lines that are read.
-const MAX_LINES: u32 = 60000;
 
 // Answers the lines of the input, and returns the end of what waits to be written.
 fn answer_all(input: &mut [u8], line: &mut [u8], out: &mut [u8], at: usize) -> usize

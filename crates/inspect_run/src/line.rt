@@ -1,13 +1,13 @@
 // One line of input to its answer line.
 ghost use Rattle.printing.specs.Waits.{Waits};
-ghost use Rattle.inspect_run.specs.Sized.{Sized};
-use crate::alter::alter;
+ghost use Rattle.inspect_state.specs.Sized.{Sized};
 use crate::call::call;
-use crate::fixture::Fixture;
-use crate::fixture::Step;
-use crate::further;
 use crate::show::put_fixture;
 use check::same;
+use inspect_state::alter::alter;
+use inspect_state::fixture::Fixture;
+use inspect_state::fixture::Step;
+use inspect_state::further;
 use model::line::Parsed;
 use printing::place;
 

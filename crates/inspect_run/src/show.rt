@@ -1,8 +1,8 @@
 // What `show` prints: the fixture, words that are 0 left out of bitmaps and disk.
 ghost use Rattle.printing.specs.Waits.{Waits};
-ghost use Rattle.inspect_run.specs.Sized.{Sized};
-use crate::fixture::Fixture;
+ghost use Rattle.inspect_state.specs.Sized.{Sized};
 use bitmap::Bitmap;
+use inspect_state::fixture::Fixture;
 use model::memory::Memory;
 use model::memory::Pending;
 use model::memory::SlotState;

@@ -1,5 +1,6 @@
 -- What the loops over a disk's words check and write, and the model's definitions.
-pub mod Memory
+pub mod Given
+pub mod InTurn
 pub mod Rewritten
 pub mod Checkpointed
 pub mod LogWords
@@ -10,4 +11,4 @@ pub mod Recovery
 pub mod ChangedWord
 pub mod NextStore
 pub mod NextOfCommit
-pub mod NextOfMemory
+pub mod PendingWork

@@ -4,6 +4,7 @@ use mathlib.Core.Bool.{Bool, true, cond, _&&_}
 use mathlib.Core.List.{List, [], _∷_}
 use lib.ListN.{getD}
 use lib.Dec.{leb, ltb, eqb}
+use lib.Bits.{bitXor}
 use Rattle.model.specs.Sizes.{bitmapAt, logAt}
 use Rattle.model.specs.Disk.{diskBlocks, logLength, logEntries, logValid, entriesAgree}
 
@@ -17,9 +18,15 @@ logAgrees disk sam blocks entries = headIs disk blocks entries && logValid disk 
 
 -- ---- a commit, word by word
 
--- 1 where two words differ, and 0 where they are the same
-abbrev pub differs : ℕ → ℕ → ℕ
-differs old new = cond (eqb old new) 0 1
+-- the bits in which the disk's word differs from a word that stays. A word that changes has none here
+abbrev pub keptDifference : ℕ → ℕ → ℕ → ℕ
+keptDifference word old new = cond (eqb old new) (bitXor word old) 0
+
+-- whether the bitmap words from number k on that stay are as they were
+unfoldable pub keptMatch : List ℕ → ℕ → List ℕ → List ℕ → Bool
+keptMatch disk k [] news = true
+keptMatch disk k (old ∷ olds) [] = true
+keptMatch disk k (old ∷ olds) (new ∷ news) = cond (eqb old new) (eqb (getD disk (bitmapAt + k) 0) old) true && keptMatch disk (suc k) olds news
 
 -- whether the words of log entry i are as so many stores done leave them: the first 2i + 1 stores write its number, one more
 -- its contents
@@ -33,19 +40,19 @@ entryWritten disk done i number contents =
 abbrev pub checkpointedWord : ℕ → ℕ → ℕ → ℕ → ℕ
 checkpointedWord checkpointed i old new = cond (ltb i checkpointed) new old
 
--- whether bitmap word k is as the stores done leave it, i changed words being before it; if it changes, its log entry too
+-- whether the changed bitmap word k, i of them being before it, and its log entry are as the stores done leave them
 unfoldable pub wordMatches : List ℕ → ℕ → ℕ → ℕ → ℕ → ℕ → ℕ → Bool
 wordMatches disk done checkpointed k i old new =
-    cond (eqb old new)
-    (eqb (getD disk (bitmapAt + k) 0) old)
-    (eqb (getD disk (bitmapAt + k) 0) (checkpointedWord checkpointed i old new) && entryWritten disk done i k new)
+    eqb (getD disk (bitmapAt + k) 0) (checkpointedWord checkpointed i old new) && entryWritten disk done i k new
 
--- and all words from number k on
-unfoldable pub wordsMatch : List ℕ → ℕ → ℕ → ℕ → ℕ → List ℕ → List ℕ → Bool
-wordsMatch disk done checkpointed k i [] news = true
-wordsMatch disk done checkpointed k i (old ∷ olds) [] = true
-wordsMatch disk done checkpointed k i (old ∷ olds) (new ∷ news) =
-    wordMatches disk done checkpointed k i old new && wordsMatch disk done checkpointed (suc k) (i + differs old new) olds news
+-- and so all changed words from number k on
+unfoldable pub changedMatch : List ℕ → ℕ → ℕ → ℕ → ℕ → List ℕ → List ℕ → Bool
+changedMatch disk done checkpointed k i [] news = true
+changedMatch disk done checkpointed k i (old ∷ olds) [] = true
+changedMatch disk done checkpointed k i (old ∷ olds) (new ∷ news) =
+    cond (eqb old new)
+    (changedMatch disk done checkpointed (suc k) i olds news)
+    (wordMatches disk done checkpointed k i old new && changedMatch disk done checkpointed (suc k) (i + 1) olds news)
 
 -- the log length on the disk: 0 until the commit point, and then the number of changed words
 abbrev pub lengthAfter : ℕ → ℕ → ℕ

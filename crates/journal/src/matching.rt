@@ -1,64 +1,64 @@
-// A disk compared with a memory, by its pending work: cause 6.
+// A disk compared with SAM, and with SAM and a commit's stores: cause 6.
 ghost use mathlib.Core.Path.{_≡_};
-ghost use mathlib.Core.Bool.{true};
+ghost use Prim.Native.Nat.{_<_};
 ghost use lib.ListN.{length};
+ghost use Rattle.bitmap.specs.Bits.{IsBitmap};
 ghost use Rattle.model.specs.Sizes.{diskWords};
-ghost use Rattle.model.specs.Valid.{valid};
-ghost use Rattle.model.specs.Disk.{diskMatches};
-use crate::commit::checkpointed_after;
-use crate::commit::committed_sam;
-use crate::commit::length_after;
+ghost use Rattle.model.specs.Stores.{after, changes, commitStores, storesFor};
+ghost use Rattle.model.specs.Valid.{sameWords};
+ghost use Rattle.model.specs.Disk.{baseImage};
 use crate::head::head_matches;
-use crate::recovery::recovery_matches;
-use crate::written::words_match;
+use crate::progress::checkpointed_after;
+use crate::progress::length_after;
+use crate::written::changed_match;
+use crate::written::kept_match;
 use bitops::compare::same;
 use disk_log::sam::bitmap;
-use model::memory::Memory;
 use model::memory::Pending;
 
 // With nothing pending: an empty log, and SAM.
-fn settled_matches(memory: Memory, disk: &[u32]) -> bool
+pub fn settled_matches(disk: &[u32], blocks: u32, sam: &[u32; 128]) -> bool
     requires { ⌜ length (now disk) ≡ diskWords ⌝ }
-    ensures { λ r. ⌜ r ≡ diskMatches memory (now (disk .entry)) Pending.Nothing ⌝ }
+    requires { ⌜ IsBitmap (now sam) ⌝ }
+    ensures { λ r. ⌜ r ≡ sameWords (now (disk .entry)) (baseImage blocks (now (sam .entry)) (now (disk .entry))) ⌝ }
 {
-    if !head_matches(disk, memory.blocks, 0) {
+    if !head_matches(disk, blocks, 0) {
         return false;
     }
     let words = bitmap(disk);
-    same(&words, &memory.sam.words)
+    same(&words, sam)
 }
 
-// While a commit is stored.
-fn commit_matches(memory: Memory, disk: &[u32], slot: u32, done: u32, due: u32) -> bool
+// While the commit of a new SAM is stored, with stores still due.
+pub fn commit_matches(
+    disk: &[u32],
+    blocks: u32,
+    sam: &[u32; 128],
+    new: &[u32; 128],
+    done: u32,
+    due: u32,
+) -> bool
     requires { ⌜ length (now disk) ≡ diskWords ⌝ }
-    requires { ⌜ valid memory ≡ true ⌝ }
-    requires { ⌜ memory .pending ≡ Pending.Commit slot done due ⌝ }
-    ensures { λ r. ⌜ r ≡ diskMatches memory (now (disk .entry)) (Pending.Commit slot done due) ⌝ }
+    requires { ⌜ IsBitmap (now sam) ⌝ }
+    requires { ⌜ IsBitmap (now new) ⌝ }
+    requires { ⌜ due ≡ storesFor (length (changes (now sam) (now new))) ⌝ }
+    requires { ⌜ done < due ⌝ }
+    ensures { λ r. ⌜ r ≡ sameWords (now (disk .entry)) (after done (commitStores (changes (now (sam .entry)) (now (new .entry)))) (baseImage blocks (now (sam .entry)) (now (disk .entry)))) ⌝ }
 {
-    let changed = (due - 2) / 3;
-    if !head_matches(disk, memory.blocks, length_after(changed, done)) {
+    let changed = Pending::changed_for(due);
+    if !head_matches(disk, blocks, length_after(changed, done)) {
         return false;
     }
-    let new = committed_sam(memory, slot as usize);
-    words_match(
+    if !kept_match(disk, sam, new) {
+        return false;
+    }
+    let checkpointed = checkpointed_after(changed, done);
+    changed_match(
         disk,
         done as usize,
-        checkpointed_after(changed, done),
-        &memory.sam.words,
-        &new,
+        checkpointed,
+        changed as usize,
+        sam,
+        new,
     )
-}
-
-// Whether a disk is as a memory and its stores done leave it: cause 6 doesn't hold.
-pub fn matches(memory: Memory, disk: &[u32]) -> bool
-    requires { ⌜ length (now disk) ≡ diskWords ⌝ }
-    requires { ⌜ valid memory ≡ true ⌝ }
-    ensures { λ r. ⌜ r ≡ diskMatches memory (now (disk .entry)) (memory .pending) ⌝ }
-{
-    let pending = memory.pending;
-    match pending {
-        Pending::Nothing => settled_matches(memory, disk),
-        Pending::Commit { slot, done, due } => commit_matches(memory, disk, slot, done, due),
-        Pending::Recovery { done, due } => recovery_matches(memory, disk, done, due),
-    }
 }

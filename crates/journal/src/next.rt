@@ -1,15 +1,12 @@
 // The next store of the pending work: which word, and its new contents.
-ghost use mathlib.Core.Path.{_≡_};
-ghost use mathlib.Core.Bool.{true};
 ghost use Prim.Native.Nat.{_+_, _*_, _≤_, _<_};
 ghost use lib.ListN.{length};
-ghost use Rattle.bitmap.specs.Sizes.{maxBlocks};
 ghost use Rattle.bitmap.specs.Bits.{IsBitmap};
-ghost use Rattle.model.specs.Sizes.{diskWords, logAt};
-ghost use Rattle.model.specs.Stores.{changes, commitStores, checkpointStores};
-ghost use Rattle.model.specs.Disk.{diskBlocks, logLength, logEntries, logValid};
+ghost use Rattle.model.specs.Sizes.{logAt};
+ghost use Rattle.model.specs.Stores.{changes, commitStores, checkpointStores, storesFor};
+ghost use Rattle.model.specs.Disk.{logLength, logEntries};
+ghost use Rattle.journal.specs.Given.{Changing, Logged};
 ghost use Rattle.journal.specs.Next.{IsChange, IsNext};
-use crate::written::differs;
 use bitmap::Bitmap;
 use disk_log::layout::BITMAP_AT;
 use disk_log::layout::LENGTH_AT;
@@ -32,11 +29,12 @@ fn changed_word(old: &[u32; 128], new: &[u32; 128], i: usize) -> usize
 {
     let mut left = i;
     for k in 0..Bitmap::WORDS {
-        let step = differs(old[k], new[k]);
-        if left < step {
-            return k;
+        if old[k] != new[k] {
+            if left == 0 {
+                return k;
+            }
+            left -= 1;
         }
-        left -= step;
     }
     0
 }
@@ -54,10 +52,8 @@ fn log_word(old: &[u32; 128], new: &[u32; 128], done: usize) -> u32
 
 // The next store of a commit from one SAM to the next.
 pub fn commit_next(old: &[u32; 128], new: &[u32; 128], changed: usize, done: usize) -> Store
-    requires { ⌜ IsBitmap (now old) ⌝ }
-    requires { ⌜ IsBitmap (now new) ⌝ }
-    requires { ⌜ changed ≡ length (changes (now old) (now new)) ⌝ }
-    requires { ⌜ done < 3 * changed + 2 ⌝ }
+    requires { ⌜ Changing (now old) (now new) changed ⌝ }
+    requires { ⌜ done < storesFor changed ⌝ }
     ensures { λ r. ⌜ IsNext (commitStores (changes (now (old .entry)) (now (new .entry)))) done (r .place) (r .value) ⌝ }
 {
     if done < 2 * changed {
@@ -89,9 +85,7 @@ pub fn commit_next(old: &[u32; 128], new: &[u32; 128], changed: usize, done: usi
 
 // The next store of a recovery, from the disk's own log.
 pub fn recovery_next(disk: &[u32], done: usize) -> Store
-    requires { ⌜ length (now disk) ≡ diskWords ⌝ }
-    requires { ⌜ diskBlocks (now disk) ≤ maxBlocks ⌝ }
-    requires { ⌜ logValid (now disk) ≡ true ⌝ }
+    requires { ⌜ Logged (now disk) ⌝ }
     requires { ⌜ done ≤ logLength (now disk) ⌝ }
     ensures { λ r. ⌜ IsNext (checkpointStores (logEntries (now (disk .entry)))) done (r .place) (r .value) ⌝ }
 {

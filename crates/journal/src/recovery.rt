@@ -1,13 +1,12 @@
-// Whether a disk is as a memory in recovery and its stores done leave it.
+// Whether a disk is as SAM and the stores done of a recovery leave it.
 ghost use mathlib.Core.Path.{_≡_};
-ghost use mathlib.Core.Bool.{true};
-ghost use Prim.Native.Nat.{_≤_};
+ghost use Prim.Native.Nat.{_≤_, _<_};
 ghost use lib.ListN.{length};
 ghost use Rattle.bitmap.specs.Sizes.{maxBlocks};
 ghost use Rattle.bitmap.specs.Bits.{IsBitmap};
 ghost use Rattle.model.specs.Sizes.{diskWords};
-ghost use Rattle.model.specs.Valid.{valid};
-ghost use Rattle.model.specs.Disk.{diskBlocks, logEntries, logValid, entriesAgree, diskMatches};
+ghost use Rattle.model.specs.Disk.{logEntries, entriesAgree, recoveryMatches};
+ghost use Rattle.journal.specs.Given.{Logged};
 ghost use Rattle.journal.specs.Matching.{logAgrees};
 use crate::head::head_matches;
 use bitops::compare::no_bits_from;
@@ -18,14 +17,10 @@ use disk_log::log::log_valid;
 use disk_log::log::number;
 use disk_log::replay::rewrite;
 use disk_log::sam::bitmap;
-use model::memory::Memory;
-use model::memory::Pending;
 
 // Whether the entries of the log agree with a bitmap.
 fn entries_agree(disk: &[u32], words: &[u32; 128]) -> bool
-    requires { ⌜ length (now disk) ≡ diskWords ⌝ }
-    requires { ⌜ diskBlocks (now disk) ≤ maxBlocks ⌝ }
-    requires { ⌜ logValid (now disk) ≡ true ⌝ }
+    requires { ⌜ Logged (now disk) ⌝ }
     requires { ⌜ IsBitmap (now words) ⌝ }
     ensures { λ r. ⌜ r ≡ entriesAgree (now (words .entry)) (logEntries (now (disk .entry))) ⌝ }
 {
@@ -56,19 +51,20 @@ fn log_agrees(disk: &[u32], sam: &[u32; 128], blocks: u32, entries: u32) -> bool
 }
 
 // While a recovery is stored: the log agrees with SAM, and with the words still due written, so does the bitmap.
-pub fn recovery_matches(memory: Memory, disk: &[u32], done: u32, due: u32) -> bool
+pub fn recovery_matches(disk: &[u32], blocks: u32, sam: &[u32; 128], done: u32, due: u32) -> bool
     requires { ⌜ length (now disk) ≡ diskWords ⌝ }
-    requires { ⌜ valid memory ≡ true ⌝ }
-    requires { ⌜ memory .pending ≡ Pending.Recovery done due ⌝ }
-    ensures { λ r. ⌜ r ≡ diskMatches memory (now (disk .entry)) (Pending.Recovery done due) ⌝ }
+    requires { ⌜ IsBitmap (now sam) ⌝ }
+    requires { ⌜ blocks ≤ maxBlocks ⌝ }
+    requires { ⌜ done < due ⌝ }
+    ensures { λ r. ⌜ r ≡ recoveryMatches blocks (now (sam .entry)) (now (disk .entry)) done due ⌝ }
 {
-    if !log_agrees(disk, &memory.sam.words, memory.blocks, due - 1) {
+    if !log_agrees(disk, sam, blocks, due - 1) {
         return false;
     }
     let mut words = bitmap(disk);
-    if !no_bits_from(&words, memory.blocks) {
+    if !no_bits_from(&words, blocks) {
         return false;
     }
     rewrite(&mut words, disk, done as usize);
-    same(&words, &memory.sam.words)
+    same(&words, sam)
 }

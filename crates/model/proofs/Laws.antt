@@ -14,6 +14,7 @@ pub mod Shape
 pub mod Matching
 pub mod Valid
 pub mod Commit
+pub mod CommittedTam
 pub mod Touches
 pub mod Rollback
 pub mod Untouched

@@ -1,16 +1,17 @@
 -- Document 01's table, "Causes of refusal": when each cause holds. What a call tests is in Calls/.
 use Prim.Native.Nat.{ℕ}
-use mathlib.Core.Bool.{Bool, true, false, not, _&&_}
+use mathlib.Core.Bool.{Bool, not, _&&_}
 use mathlib.Core.List.{List}
 use lib.ListN.{length}
 use lib.Dec.{leb, ltb, eqb}
-use Rattle.bitmap.specs.Sizes.{slotCount, maxCount}
+use Rattle.bitmap.specs.Sizes.{blocksInRange, countInRange, slotInRange}
 use Rattle.bitmap.specs.Bits.{noBitsFrom}
 use Rattle.bitmap.specs.Blocks.{availableBlocks}
-use Rattle.model.specs.Types.{Pending, Nothing, Commit, Recovery, Memory}
+use Rattle.model.specs.Types.{Memory}
 use Rattle.model.specs.Sizes.{diskWords}
 use Rattle.model.specs.Memory.{slotAt, isActive, isPrecommitted, samBit, comBit}
-use Rattle.model.specs.Valid.{blocksInRange, valid}
+use Rattle.model.specs.Valid.{valid}
+use Rattle.model.specs.Pending.{isNothing}
 use Rattle.model.specs.Disk.{diskBlocks, diskBitmap, logValid, diskMatches}
 
 -- 1, "memory not fit"
@@ -42,11 +43,6 @@ unfoldable pub blocksOutOfRange : ℕ → Bool
 blocksOutOfRange blocks = not (blocksInRange blocks)
 
 -- 9, "no store work in hand"
-unfoldable pub isNothing : Pending → Bool
-isNothing Nothing = true
-isNothing (Commit s done due) = false
-isNothing (Recovery done due) = false
-
 unfoldable pub nothingPending : Memory → Bool
 nothingPending memory = isNothing (memory .pending)
 
@@ -56,7 +52,7 @@ workPending memory = not (nothingPending memory)
 
 -- 10, "seat above 7"
 unfoldable pub slotOutOfRange : ℕ → Bool
-slotOutOfRange s = leb slotCount s
+slotOutOfRange s = not (slotInRange s)
 
 -- 11, "seat not idle"
 unfoldable pub slotActive : Memory → ℕ → Bool
@@ -76,7 +72,7 @@ slotNotPrecommitted memory s = not (slotPrecommitted memory s)
 
 -- 15, "count outside 1 to 64"
 unfoldable pub countOutOfRange : ℕ → Bool
-countOutOfRange count = not (leb 1 count && leb count maxCount)
+countOutOfRange count = not (countInRange count)
 
 -- 16, "list shorter than the count"
 unfoldable pub listShort : List ℕ → ℕ → Bool

@@ -76,22 +76,23 @@ entriesAgree words [] = true
 entriesAgree words (entry ∷ entries) = eqb (getD words (entry .place) 0) (entry .value) && entriesAgree words entries
 
 -- the disk before the stores of a commit, by its own log words: those written since are written by the stores done
-abbrev pub baseImage : Memory → List ℕ → List ℕ
-baseImage memory disk = diskOf (memory .blocks) 0 (memory .sam .words) (drop logAt disk)
+abbrev pub baseImage : ℕ → List ℕ → List ℕ → List ℕ
+baseImage blocks sam disk = diskOf blocks 0 sam (drop logAt disk)
 
 -- "in recovery all p entries must pass cause 5 and agree with SAM, and logged map words still to be rewritten may hold any
 -- bits below m": with those words written, words 2 to 129 are SAM
-unfoldable pub recoveryMatches : Memory → List ℕ → ℕ → ℕ → Bool
-recoveryMatches memory disk done due =
-    eqb (diskBlocks disk) (memory .blocks)
+unfoldable pub recoveryMatches : ℕ → List ℕ → List ℕ → ℕ → ℕ → Bool
+recoveryMatches blocks sam disk done due =
+    eqb (diskBlocks disk) blocks
     && eqb (logLength disk + 1) due
     && logValid disk
-    && entriesAgree (memory .sam .words) (logEntries disk)
-    && noBitsFrom (memory .blocks) (diskBitmap disk)
-    && sameWords (writes (drop done (logEntries disk)) (diskBitmap disk)) (memory .sam .words)
+    && entriesAgree sam (logEntries disk)
+    && noBitsFrom blocks (diskBitmap disk)
+    && sameWords (writes (drop done (logEntries disk)) (diskBitmap disk)) sam
 
 -- cause 6 doesn't hold: "words 0 to 129 and the log words written" are "as this memory and its stores done leave them"
 unfoldable pub diskMatches : Memory → List ℕ → Pending → Bool
-diskMatches memory disk Nothing = sameWords disk (baseImage memory disk)
-diskMatches memory disk (Commit s done due) = sameWords disk (after done (commitStores (entriesOf memory s)) (baseImage memory disk))
-diskMatches memory disk (Recovery done due) = recoveryMatches memory disk done due
+diskMatches memory disk Nothing = sameWords disk (baseImage (memory .blocks) (memory .sam .words) disk)
+diskMatches memory disk (Commit s done due) =
+    sameWords disk (after done (commitStores (entriesOf memory s)) (baseImage (memory .blocks) (memory .sam .words) disk))
+diskMatches memory disk (Recovery done due) = recoveryMatches (memory .blocks) (memory .sam .words) disk done due

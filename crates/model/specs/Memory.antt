@@ -15,7 +15,7 @@ abbrev pub emptyBitmap : Bitmap
 emptyBitmap = bitmap (replicate bitmapWords 0)
 
 abbrev pub slotOf : SlotState → Bitmap → Slot
-slotOf state tam = record { state = state; tam = tam }
+slotOf state tam = record { tam = tam; state = state }
 
 abbrev pub withState : Slot → SlotState → Slot
 withState slot state = slotOf state (slot .tam)

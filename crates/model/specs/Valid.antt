@@ -3,16 +3,12 @@ use Prim.Native.Nat.{ℕ, _+_}
 use mathlib.Core.Bool.{Bool, true, false, not, cond, xor, _&&_}
 use mathlib.Core.List.{List, [], _∷_}
 use lib.Dec.{leb, ltb, eqb}
-use Rattle.bitmap.specs.Sizes.{maxBlocks}
+use Rattle.bitmap.specs.Sizes.{blocksInRange}
 use Rattle.bitmap.specs.Bits.{noBitsFrom}
 use Rattle.bitmap.specs.Blocks.{allBelow}
 use Rattle.model.specs.Types.{Slot, Pending, Nothing, Commit, Recovery, Memory}
 use Rattle.model.specs.Memory.{slotAt, isActive, isPrecommitted, samBit, comBit, touched, emptyBitmap, volumeWords}
 use Rattle.model.specs.Commit.{changedOf, commitDue}
-
--- "m is in range"
-unfoldable pub blocksInRange : ℕ → Bool
-blocksInRange blocks = leb 1 blocks && leb blocks maxBlocks
 
 -- whether two lists of words are the same
 unfoldable pub sameWords : List ℕ → List ℕ → Bool

@@ -1,5 +1,7 @@
 // The allocator's memory: three kinds of bitmap and the pending work.
 ghost use mathlib.Core.Path.{_≡_};
+ghost use Prim.Native.Nat.{_≤_};
+ghost use Rattle.bitmap.specs.Sizes.{bitmapWords, IsSlot};
 ghost use Rattle.model.specs.Memory.{
   memoryOf,
   quietMemory,
@@ -7,7 +9,11 @@ ghost use Rattle.model.specs.Memory.{
   idleSlot,
   slotOf,
   withPending,
+  isActive,
+  isPrecommitted,
 };
+ghost use Rattle.model.specs.Stores.{storesFor, changedFor};
+ghost use Rattle.model.specs.Pending.{isNothing, ownerOf};
 use bitmap::Bitmap;
 
 // A slot (document 01: seat) is idle, open or precommitted.
@@ -17,10 +23,10 @@ pub enum SlotState {
     Precommitted,
 }
 
-// A transaction slot: its state and its bitmap, TAM. An idle slot's is empty.
+// A transaction slot: its bitmap, TAM, and its state. An idle slot's bitmap is empty.
 pub struct Slot {
-    pub state: SlotState,
     pub tam: Bitmap,
+    pub state: SlotState,
 }
 
 // Pending work (document 01: the store work in hand).
@@ -39,12 +45,36 @@ pub struct Memory {
     pub pending: Pending,
 }
 
+impl SlotState {
+    // Whether a slot isn't idle.
+    pub fn is_active(self) -> bool
+        ensures { λ r. ⌜ r ≡ isActive self ⌝ }
+    {
+        match self {
+            SlotState::Idle => false,
+            SlotState::Open => true,
+            SlotState::Precommitted => true,
+        }
+    }
+
+    // Whether a slot is precommitted.
+    pub fn is_precommitted(self) -> bool
+        ensures { λ r. ⌜ r ≡ isPrecommitted self ⌝ }
+    {
+        match self {
+            SlotState::Idle => false,
+            SlotState::Open => false,
+            SlotState::Precommitted => true,
+        }
+    }
+}
+
 impl Slot {
     // The one place in the code that writes a whole slot.
     pub fn new(state: SlotState, tam: Bitmap) -> Slot
         ensures { λ r. ⌜ r ≡ slotOf state tam ⌝ }
     {
-        Slot { state, tam }
+        Slot { tam, state }
     }
 
     // An idle slot, its bitmap empty.
@@ -92,5 +122,53 @@ impl Memory {
         let com = self.com;
         let slots = self.slots;
         Memory::new(self.blocks, sam, com, slots, pending)
+    }
+}
+
+impl Pending {
+    // Whether no work is pending.
+    pub fn is_nothing(self) -> bool
+        ensures { λ r. ⌜ r ≡ isNothing self ⌝ }
+    {
+        match self {
+            Pending::Nothing => true,
+            Pending::Commit {
+                slot: _,
+                done: _,
+                due: _,
+            } => false,
+            Pending::Recovery { done: _, due: _ } => false,
+        }
+    }
+
+    // The slot of a commit, and 0 where there is none.
+    pub fn owner(self) -> usize
+        ensures { λ r. ⌜ IsSlot (ownerOf self) r ⌝ }
+    {
+        match self {
+            Pending::Nothing => 0,
+            Pending::Commit {
+                slot,
+                done: _,
+                due: _,
+            } => Bitmap::slot_index(slot),
+            Pending::Recovery { done: _, due: _ } => 0,
+        }
+    }
+
+    // The stores of a commit that changes so many words.
+    pub fn stores_for(changed: u32) -> u32
+        requires { ⌜ changed ≤ bitmapWords ⌝ }
+        ensures { λ r. ⌜ r ≡ storesFor changed ⌝ }
+    {
+        3 * changed + 2
+    }
+
+    // The words that a commit with so many stores changes.
+    pub fn changed_for(due: u32) -> u32
+        requires { ⌜ 2 ≤ due ⌝ }
+        ensures { λ r. ⌜ r ≡ changedFor due ⌝ }
+    {
+        (due - 2) / 3
     }
 }

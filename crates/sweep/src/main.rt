@@ -1,19 +1,19 @@
 // The sweep: a crash after each store of the longest commit, and again after each store of the recovery that follows
 // (docs/TEST-LINES.md).
+mod longest;
 mod runs;
-mod volume;
 
 ghost use Rattle.printing.specs.Waits.{Waits};
-use allocator::open::open;
-use allocator::store::store;
+use longest::longest_commit;
+use longest::make_stores;
 use model::memory::Memory;
 use printing::end_line;
 use printing::flush;
 use printing::put;
 use printing::put_field;
 use runs::put_runs;
-use volume::longest_commit;
-use volume::make_stores;
+use store::store;
+use volume::open::open;
 
 // Where the bitmap begins on a disk.
 const BITMAP: usize = 2;

@@ -1,3 +1,3 @@
 -- What the contracts of this crate cite beside model's `valid`.
-pub mod Touches
+pub mod Left
 pub mod Pending

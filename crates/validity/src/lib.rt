@@ -1,65 +1,78 @@
-// Whether a memory is valid (document 01: fit). Every public call asks this first, so it goes over whole words.
+// Whether a memory is valid (document 01: fit). Every public call asks this first, so it goes over whole words, and takes
+// the memory by its parts.
 ghost use mathlib.Core.Path.{_≡_};
+ghost use lib.ListN.{getD};
+ghost use Rattle.bitmap.specs.Bits.{IsBitmap};
+ghost use Rattle.model.specs.Memory.{bitmap, memoryOf, idleSlot};
+ghost use Rattle.model.specs.Pending.{ownerOf};
 ghost use Rattle.model.specs.Valid.{valid};
 use bitmap::Bitmap;
-use model::memory::Memory;
+use bitops::compare::is_empty;
+use bits::volume_valid;
 use model::memory::Pending;
+use model::memory::Slot;
 use pending::commit_valid;
 use pending::recovery_valid;
-use touch::agree;
+use touch::differences;
 use touch::take_slot;
-use volume::volume_valid;
 
+pub mod bits;
 pub mod pending;
-pub mod state;
 pub mod touch;
-pub mod volume;
 
-// Whether a memory is valid. No slot's bitmap is looked at for bits from the block count on: they would be touches that
-// COM doesn't have.
-pub fn valid(memory: Memory) -> bool
-    ensures { λ r. ⌜ r ≡ valid memory ⌝ }
+// Whether the bitmaps are those of a valid memory. No slot's bitmap is looked at for bits from the block count on: they
+// would be touches that aren't left.
+pub fn maps_valid<'a>(
+    blocks: u32,
+    sam: &'a [u32; 128],
+    com: &'a [u32; 128],
+    slots: [Slot; 8],
+) -> bool
+    requires { ⌜ IsBitmap (now sam) ⌝ }
+    requires { ⌜ IsBitmap (now «com») ⌝ }
+    ensures { λ r. ⌜ r ≡ valid (memoryOf blocks (bitmap (now (sam .entry))) (bitmap (now («com» .entry))) slots Pending.Nothing) ⌝ }
 {
-    if !volume_valid(memory.blocks, &memory.sam.words, &memory.com.words) {
+    if !volume_valid(blocks, sam, com) {
         return false;
     }
-    let mut some = [0; 128];
-    let mut twice = [0; 128];
+    let mut left = [0; 128];
+    differences(&mut left, sam, com);
     for s in 0..Bitmap::SLOTS {
-        let slot = memory.slots[s];
+        let slot = slots[s];
         let state = slot.state;
-        if !take_slot(
-            state,
-            &mut some,
-            &mut twice,
-            &memory.sam.words,
-            &slot.tam.words,
-        ) {
+        if !take_slot(state, &mut left, sam, &slot.tam.words) {
             return false;
         }
     }
-    if !agree(&some, &twice, &memory.sam.words, &memory.com.words) {
+    is_empty(&left)
+}
+
+// Whether a memory is valid. The owner is the slot that the pending work is to be looked up in.
+pub fn valid<'a>(
+    blocks: u32,
+    sam: &'a [u32; 128],
+    com: &'a [u32; 128],
+    slots: [Slot; 8],
+    pending: Pending,
+    owner: Slot,
+) -> bool
+    requires { ⌜ IsBitmap (now sam) ⌝ }
+    requires { ⌜ IsBitmap (now «com») ⌝ }
+    requires { ⌜ owner ≡ getD slots (ownerOf pending) idleSlot ⌝ }
+    ensures { λ r. ⌜ r ≡ valid (memoryOf blocks (bitmap (now (sam .entry))) (bitmap (now («com» .entry))) slots pending) ⌝ }
+{
+    if !maps_valid(blocks, sam, com, slots) {
         return false;
     }
-    let pending = memory.pending;
     match pending {
         Pending::Nothing => true,
         Pending::Commit { slot, done, due } => {
-            let s = slot as usize;
-            if Bitmap::SLOTS <= s {
+            if !Bitmap::slot_in_range(slot) {
                 return false;
             }
-            let owner = memory.slots[s];
             let state = owner.state;
-            commit_valid(
-                state,
-                &memory.sam.words,
-                &memory.com.words,
-                &owner.tam.words,
-                done,
-                due,
-            )
+            commit_valid(state, sam, &owner.tam.words, done, due)
         }
-        Pending::Recovery { done, due } => recovery_valid(memory, done, due),
+        Pending::Recovery { done, due } => recovery_valid(blocks, sam, com, slots, done, due),
     }
 }

@@ -1,70 +1,72 @@
-// Whether pending work fits the memory that it stands in.
+// Whether pending work fits the memory that it stands in, once its bitmaps are known to be valid.
 ghost use mathlib.Core.Path.{_≡_};
 ghost use Prim.Native.Nat.{_≤_};
 ghost use Rattle.bitmap.specs.Sizes.{maxBlocks};
 ghost use Rattle.bitmap.specs.Bits.{IsBitmap};
+ghost use Rattle.model.specs.Memory.{bitmap, memoryOf};
 ghost use Rattle.model.specs.Valid.{pendingValid};
 ghost use Rattle.validity.specs.Pending.{commitValid};
-use crate::state::is_active;
-use crate::state::is_precommitted;
 use bitmap::Bitmap;
-use bitops::combine::majority;
 use bitops::compare::changed;
 use bitops::compare::same;
-use model::memory::Memory;
 use model::memory::Pending;
+use model::memory::Slot;
 use model::memory::SlotState;
 
-// A commit's slot is precommitted, and there are three stores for each word that it changes, one at least, and two more.
-pub fn commit_valid<'a>(
+// A commit's slot is precommitted, and there are three stores for each word at which its TAM differs from SAM, one at
+// least, and two more.
+pub fn commit_valid(
     state: SlotState,
-    sam: &'a [u32; 128],
-    com: &'a [u32; 128],
+    sam: &[u32; 128],
     tam: &[u32; 128],
     done: u32,
     due: u32,
 ) -> bool
     requires { ⌜ IsBitmap (now sam) ⌝ }
-    requires { ⌜ IsBitmap (now «com») ⌝ }
     requires { ⌜ IsBitmap (now tam) ⌝ }
-    ensures { λ r. ⌜ r ≡ commitValid state (now (sam .entry)) (now («com» .entry)) (now (tam .entry)) done due ⌝ }
+    ensures { λ r. ⌜ r ≡ commitValid state (now (sam .entry)) (now (tam .entry)) done due ⌝ }
 {
-    if !is_precommitted(state) {
+    if !state.is_precommitted() {
         return false;
     }
-    let mut committed = [0; 128];
-    majority(&mut committed, sam, com, tam);
-    let words = changed(sam, &committed);
+    let words = changed(sam, tam);
     if words < 1 {
         return false;
     }
-    if due != 3 * words + 2 {
+    if due != Pending::stores_for(words) {
         return false;
     }
     done < due
 }
 
 // During a recovery all slots are idle, COM equals SAM, and there are 2 to W + 1 stores.
-pub fn recovery_valid(memory: Memory, done: u32, due: u32) -> bool
-    requires { ⌜ memory .blocks ≤ maxBlocks ⌝ }
-    ensures { λ r. ⌜ r ≡ pendingValid memory (Pending.Recovery done due) ⌝ }
+pub fn recovery_valid<'a>(
+    blocks: u32,
+    sam: &'a [u32; 128],
+    com: &'a [u32; 128],
+    slots: [Slot; 8],
+    done: u32,
+    due: u32,
+) -> bool
+    requires { ⌜ blocks ≤ maxBlocks ⌝ }
+    requires { ⌜ IsBitmap (now sam) ⌝ }
+    requires { ⌜ IsBitmap (now «com») ⌝ }
+    ensures { λ r. ⌜ r ≡ pendingValid (memoryOf blocks (bitmap (now (sam .entry))) (bitmap (now («com» .entry))) slots (Pending.Recovery done due)) (Pending.Recovery done due) ⌝ }
 {
     for s in 0..Bitmap::SLOTS {
-        let slot = memory.slots[s];
+        let slot = slots[s];
         let state = slot.state;
-        if is_active(state) {
+        if state.is_active() {
             return false;
         }
     }
-    let sam = memory.sam;
-    let com = memory.com;
-    if !same(&com.words, &sam.words) {
+    if !same(com, sam) {
         return false;
     }
     if due < 2 {
         return false;
     }
-    if (memory.blocks + 31) / 32 + 1 < due {
+    if Bitmap::words_for(blocks) + 1 < due {
         return false;
     }
     done < due

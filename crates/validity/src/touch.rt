@@ -1,59 +1,56 @@
-// Touched by at least one slot, and by at least two: two bitmaps folded over the slots.
+// What is left: the blocks at which COM differs from SAM, less those that the slots passed have touched.
 ghost use mathlib.Core.Path.{_≡_};
+ghost use lib.ListN.{length};
 ghost use Rattle.bitmap.specs.Bits.{IsBitmap};
-ghost use Rattle.validity.specs.Touches.{Joined, Taken, wordsAgree};
-use crate::state::is_active;
+ghost use Rattle.bitmap.specs.Sizes.{bitmapWords};
+ghost use Rattle.validity.specs.Left.{differ, TouchedTaken, SlotTaken};
+use bitmap::Bitmap;
 use bitops::compare::is_empty;
 use model::memory::SlotState;
 
-// Joins what one more slot has touched, the blocks at which its TAM differs from SAM.
-pub fn join(some: &mut [u32; 128], twice: &mut [u32; 128], sam: &[u32; 128], tam: &[u32; 128])
-    requires { ⌜ IsBitmap (now some) ⌝ }
-    requires { ⌜ IsBitmap (now twice) ⌝ }
+// Puts the blocks at which COM differs from SAM into left.
+pub fn differences<'a>(left: &mut [u32; 128], sam: &'a [u32; 128], com: &'a [u32; 128])
+    requires { ⌜ length (now left) ≡ bitmapWords ⌝ }
     requires { ⌜ IsBitmap (now sam) ⌝ }
-    requires { ⌜ IsBitmap (now tam) ⌝ }
-    ensures { λ _. ⌜ Joined (now (some .entry)) (now (twice .entry)) (now (sam .entry)) (now (tam .entry)) (now (some .exit)) (now (twice .exit)) ⌝ }
+    requires { ⌜ IsBitmap (now «com») ⌝ }
+    ensures { λ _. ⌜ now (left .exit) ≡ differ (now (sam .entry)) (now («com» .entry)) ⌝ }
 {
-    for k in 0..128 {
-        let touched = tam[k] ^ sam[k];
-        twice[k] = twice[k] | (some[k] & touched);
-        some[k] = some[k] | touched;
+    for k in 0..Bitmap::WORDS {
+        left[k] = sam[k] ^ com[k];
     }
 }
 
-// Whether a slot's bitmap is empty if it is idle. What one that isn't idle has touched joins the others'.
+// Takes what a slot has touched, the blocks at which its TAM differs from SAM, from what is left. Whether all of it was
+// left.
+pub fn take_touched(left: &mut [u32; 128], sam: &[u32; 128], tam: &[u32; 128]) -> bool
+    requires { ⌜ IsBitmap (now left) ⌝ }
+    requires { ⌜ IsBitmap (now sam) ⌝ }
+    requires { ⌜ IsBitmap (now tam) ⌝ }
+    ensures { λ r. ⌜ TouchedTaken (now (left .entry)) (differ (now (tam .entry)) (now (sam .entry))) r (now (left .exit)) ⌝ }
+{
+    let mut wrong: u32 = 0;
+    for k in 0..Bitmap::WORDS {
+        let touched = tam[k] ^ sam[k];
+        wrong = wrong | (touched & !left[k]);
+        left[k] = left[k] ^ touched;
+    }
+    wrong == 0
+}
+
+// Whether a slot's bitmap is empty if it is idle. What one that isn't idle has touched must be left, and is taken.
 pub fn take_slot(
     state: SlotState,
-    some: &mut [u32; 128],
-    twice: &mut [u32; 128],
+    left: &mut [u32; 128],
     sam: &[u32; 128],
     tam: &[u32; 128],
 ) -> bool
-    requires { ⌜ IsBitmap (now some) ⌝ }
-    requires { ⌜ IsBitmap (now twice) ⌝ }
+    requires { ⌜ IsBitmap (now left) ⌝ }
     requires { ⌜ IsBitmap (now sam) ⌝ }
     requires { ⌜ IsBitmap (now tam) ⌝ }
-    ensures { λ r. ⌜ Taken state (now (some .entry)) (now (twice .entry)) (now (sam .entry)) (now (tam .entry)) r (now (some .exit)) (now (twice .exit)) ⌝ }
+    ensures { λ r. ⌜ SlotTaken state (now (left .entry)) (now (sam .entry)) (now (tam .entry)) r (now (left .exit)) ⌝ }
 {
-    if !is_active(state) {
+    if !state.is_active() {
         return is_empty(tam);
     }
-    join(some, twice, sam, tam);
-    true
-}
-
-// Whether no block is touched twice, and those at which COM differs from SAM are just those touched.
-pub fn agree<'a>(
-    some: &[u32; 128],
-    twice: &[u32; 128],
-    sam: &'a [u32; 128],
-    com: &'a [u32; 128],
-) -> bool
-    ensures { λ r. ⌜ r ≡ wordsAgree (now (some .entry)) (now (twice .entry)) (now (sam .entry)) (now («com» .entry)) ⌝ }
-{
-    let mut wrong: u32 = 0;
-    for k in 0..128 {
-        wrong = wrong | twice[k] | (some[k] ^ (sam[k] ^ com[k]));
-    }
-    wrong == 0
+    take_touched(left, sam, tam)
 }

@@ -1,3 +1,3 @@
--- What causes come to, one after the other.
+-- Laws of verdicts.
 pub mod Verdicts
 pub mod Ready

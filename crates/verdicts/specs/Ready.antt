@@ -1,34 +1,36 @@
--- The causes with which the lists of the six transaction calls start, in document 01's order.
+-- The causes with which the lists of the six transaction calls start, in document 01's order, told by parts of a memory:
+-- whether it is valid, its pending work, the slot's number and its state.
 use Prim.Native.Nat.{ℕ}
-use mathlib.Core.Option.{Option}
+use mathlib.Core.Bool.{Bool, not}
 use mathlib.Core.List.{List, [], _∷_, _++_}
-use Rattle.model.specs.declared.memory.Memory.{Memory}
-use Rattle.model.specs.declared.error.Error.{Error}
-use Rattle.model.specs.declared.error.Error.the-variants.{MemoryInvalid, WorkPending, SlotRange, SlotIdle, SlotPrecommitted}
-use Rattle.model.specs.Errors.{Cause, first, _⇒_}
-use Rattle.model.specs.Causes.{memoryInvalid, workPending, slotOutOfRange, slotInactive, slotPrecommitted}
+use Rattle.bitmap.specs.Sizes.{slotInRange}
+use Rattle.model.specs.declared.memory.SlotState.{SlotState}
+use Rattle.model.specs.declared.memory.Pending.{Pending}
+use Rattle.model.specs.declared.error.Error.the-variants.{MemoryInvalid, WorkPending, SlotRange, SlotBusy, SlotIdle, SlotPrecommitted, SlotNotPrecommitted}
+use Rattle.model.specs.Memory.{isActive, isPrecommitted}
+use Rattle.model.specs.Pending.{isNothing}
+use Rattle.model.specs.Errors.{Cause, _⇒_}
 
 -- 1, 8 and 10: all six
-abbrev pub readyCauses : Memory → ℕ → List Cause
-readyCauses memory s =
-    memoryInvalid memory ⇒ MemoryInvalid
-    ∷ workPending memory ⇒ WorkPending
-    ∷ slotOutOfRange s ⇒ SlotRange
+abbrev pub readyCauses : Bool → Pending → ℕ → List Cause
+readyCauses sound pending s =
+    not sound ⇒ MemoryInvalid
+    ∷ not (isNothing pending) ⇒ WorkPending
+    ∷ not (slotInRange s) ⇒ SlotRange
     ∷ []
 
--- and 12: all but start
-abbrev pub activeCauses : Memory → ℕ → List Cause
-activeCauses memory s = readyCauses memory s ++ (slotInactive memory s ⇒ SlotIdle ∷ [])
+-- and 11: start
+abbrev pub idleCauses : Bool → Pending → ℕ → SlotState → List Cause
+idleCauses sound pending s state = readyCauses sound pending s ++ (isActive state ⇒ SlotBusy ∷ [])
+
+-- 1, 8, 10 and 12: all but start
+abbrev pub activeCauses : Bool → Pending → ℕ → SlotState → List Cause
+activeCauses sound pending s state = readyCauses sound pending s ++ (not (isActive state) ⇒ SlotIdle ∷ [])
 
 -- and 13: allocate, deallocate and precommit
-abbrev pub openSlotCauses : Memory → ℕ → List Cause
-openSlotCauses memory s = activeCauses memory s ++ (slotPrecommitted memory s ⇒ SlotPrecommitted ∷ [])
+abbrev pub openCauses : Bool → Pending → ℕ → SlotState → List Cause
+openCauses sound pending s state = activeCauses sound pending s state ++ (isPrecommitted state ⇒ SlotPrecommitted ∷ [])
 
-abbrev pub readyError : Memory → ℕ → Option Error
-readyError memory s = first (readyCauses memory s)
-
-abbrev pub activeError : Memory → ℕ → Option Error
-activeError memory s = first (activeCauses memory s)
-
-abbrev pub openSlotError : Memory → ℕ → Option Error
-openSlotError memory s = first (openSlotCauses memory s)
+-- and 14: commit
+abbrev pub precommittedCauses : Bool → Pending → ℕ → SlotState → List Cause
+precommittedCauses sound pending s state = activeCauses sound pending s state ++ (not (isPrecommitted state) ⇒ SlotNotPrecommitted ∷ [])

@@ -1,97 +1,51 @@
-// What the six transaction calls test first, and the state of a slot. Whoever calls these has tested whether the memory is
-// valid, once, and hands that on as `sound`.
+// What the six transaction calls test first: whether the memory is valid, its pending work, the slot's number and its state.
 ghost use mathlib.Core.Path.{_≡_};
-ghost use Prim.Native.Nat.{_<_};
-ghost use Rattle.bitmap.specs.Sizes.{slotCount};
-ghost use Rattle.model.specs.Memory.{slotAt};
-ghost use Rattle.model.specs.Valid.{valid};
-ghost use Rattle.model.specs.Causes.{isNothing};
+ghost use Rattle.model.specs.Errors.{first};
 ghost use Rattle.verdicts.specs.Verdicts.{verdict};
-ghost use Rattle.verdicts.specs.Ready.{readyError, activeError, openSlotError};
+ghost use Rattle.verdicts.specs.Ready.{readyCauses, idleCauses, activeCauses, openCauses, precommittedCauses};
 use crate::verdict::Verdict;
 use bitmap::Bitmap;
 use model::error::Error;
-use model::memory::Memory;
 use model::memory::Pending;
 use model::memory::SlotState;
-use validity::state::is_active;
-use validity::state::is_precommitted;
-
-// Whether no work is pending.
-fn is_nothing(pending: Pending) -> bool
-    ensures { λ r. ⌜ r ≡ isNothing pending ⌝ }
-{
-    match pending {
-        Pending::Nothing => true,
-        Pending::Commit {
-            slot: _,
-            done: _,
-            due: _,
-        } => false,
-        Pending::Recovery { done: _, due: _ } => false,
-    }
-}
-
-// The state of a slot.
-pub fn slot_state(memory: Memory, slot: u32) -> SlotState
-    requires { ⌜ slot < slotCount ⌝ }
-    ensures { λ r. ⌜ r ≡ slotAt memory slot .state ⌝ }
-{
-    let at = slot as usize;
-    let own = memory.slots[at];
-    own.state
-}
 
 // Causes 1, 8 and 10: all six test them.
-pub fn ready(sound: bool, memory: Memory, slot: u32) -> Verdict
-    requires { ⌜ sound ≡ valid memory ⌝ }
-    ensures { λ r. ⌜ r ≡ verdict (readyError memory slot) ⌝ }
+fn ready(sound: bool, pending: Pending, slot: u32) -> Verdict
+    ensures { λ r. ⌜ r ≡ verdict (first (readyCauses sound pending slot)) ⌝ }
 {
-    if !sound {
-        return Verdict::Refused(Error::MemoryInvalid);
-    }
-    let pending = memory.pending;
-    if !is_nothing(pending) {
-        return Verdict::Refused(Error::WorkPending);
-    }
-    if Bitmap::SLOTS <= slot as usize {
-        return Verdict::Refused(Error::SlotRange);
-    }
-    Verdict::Accepted
+    let valid = Verdict::Accepted.unless(!sound, Error::MemoryInvalid);
+    let settled = valid.unless(!pending.is_nothing(), Error::WorkPending);
+    settled.unless(!Bitmap::slot_in_range(slot), Error::SlotRange)
 }
 
-// Those, and 12: all but start test them.
-pub fn ready_active(sound: bool, memory: Memory, slot: u32) -> Verdict
-    requires { ⌜ sound ≡ valid memory ⌝ }
-    ensures { λ r. ⌜ r ≡ verdict (activeError memory slot) ⌝ }
+// Those, and 11: start.
+pub fn idle(sound: bool, pending: Pending, slot: u32, state: SlotState) -> Verdict
+    ensures { λ r. ⌜ r ≡ verdict (first (idleCauses sound pending slot state)) ⌝ }
 {
-    let earlier = ready(sound, memory, slot);
-    match earlier {
-        Verdict::Refused(error) => Verdict::Refused(error),
-        Verdict::Accepted => {
-            if is_active(slot_state(memory, slot)) {
-                Verdict::Accepted
-            } else {
-                Verdict::Refused(Error::SlotIdle)
-            }
-        }
-    }
+    let earlier = ready(sound, pending, slot);
+    earlier.unless(state.is_active(), Error::SlotBusy)
 }
 
-// Those, and 13: allocate, deallocate and precommit test them.
-pub fn ready_open(sound: bool, memory: Memory, slot: u32) -> Verdict
-    requires { ⌜ sound ≡ valid memory ⌝ }
-    ensures { λ r. ⌜ r ≡ verdict (openSlotError memory slot) ⌝ }
+// 1, 8, 10 and 12: rollback.
+pub fn active(sound: bool, pending: Pending, slot: u32, state: SlotState) -> Verdict
+    ensures { λ r. ⌜ r ≡ verdict (first (activeCauses sound pending slot state)) ⌝ }
 {
-    let earlier = ready_active(sound, memory, slot);
-    match earlier {
-        Verdict::Refused(error) => Verdict::Refused(error),
-        Verdict::Accepted => {
-            if is_precommitted(slot_state(memory, slot)) {
-                Verdict::Refused(Error::SlotPrecommitted)
-            } else {
-                Verdict::Accepted
-            }
-        }
-    }
+    let earlier = ready(sound, pending, slot);
+    earlier.unless(!state.is_active(), Error::SlotIdle)
+}
+
+// Those, and 13: allocate, deallocate and precommit.
+pub fn open(sound: bool, pending: Pending, slot: u32, state: SlotState) -> Verdict
+    ensures { λ r. ⌜ r ≡ verdict (first (openCauses sound pending slot state)) ⌝ }
+{
+    let earlier = active(sound, pending, slot, state);
+    earlier.unless(state.is_precommitted(), Error::SlotPrecommitted)
+}
+
+// 1, 8, 10, 12 and 14: commit.
+pub fn precommitted(sound: bool, pending: Pending, slot: u32, state: SlotState) -> Verdict
+    ensures { λ r. ⌜ r ≡ verdict (first (precommittedCauses sound pending slot state)) ⌝ }
+{
+    let earlier = active(sound, pending, slot, state);
+    earlier.unless(!state.is_precommitted(), Error::SlotNotPrecommitted)
 }

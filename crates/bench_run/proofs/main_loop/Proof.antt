@@ -1,4 +1,4 @@
--- The slices have the lengths asked for.
+-- The disk is of zeros, and the slices have the lengths asked for.
 use mathlib.Core.Path.{refl}
 use lib.Dec.{lit≤}
 use borrow.Author.Needs.{needs}
@@ -18,10 +18,10 @@ slice-aggregate-run-all-4 : tie.Need-slice-aggregate-run-all-4
 slice-aggregate-run-all-4 c = search needs
 
 run-all-requires : tie.Need-run-all-requires
-run-all-requires c κs = (refl, (lit≤ tt, lit≤ tt))
+run-all-requires c κs = (refl, record { kept-fits = refl; answers-fit = lit≤ tt })
 
 returns : tie.Need-returns
-returns c = search needs
+returns c = c .before .before .before .before .run-all .ensures
 
 pub main-loop-spec : {M : Type 1} → statement M
 main-loop-spec =

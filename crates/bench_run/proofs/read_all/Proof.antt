@@ -1,76 +1,152 @@
--- The turns fall; the slices keep their lengths and the counters their bounds.
-use mathlib.Core.Path.{_≡_, refl}
-use mathlib.Core.List.{[]}
+-- Each piece that is read leads on, and what it prints is written. The bytes left fall.
+use Prim.Native.Nat.{_≤_}
+use mathlib.Core.Path.{_≡_, refl, sym, _∙_}
 use native.Mathlib.Omega.{arith}
-use lib.ListN.{length, take}
-use Rattle.bench_run.specs.Read.{AllRead, Reaches}
-use Rattle.bench_run.proofs.Laws.Whole.{all-read}
+use lib.ListN.{length}
+use denote.Ref.{now}
+use Rattle.bench_piece.specs.Keep.{keptRoom}
+use Rattle.bench_run.proofs.Laws.Whole.{Reading, reading-start, reading-ends, reading-more, reading-done, fewer-left}
 use Rattle.bench_run.proofs.read_all.Statement.{statement}
 use Rattle.bench_run.proofs.read_all.Tie as tie
 
 abbrev Inv-loop : tie.InvT-loop
-Inv-loop input₀ disk₀ line₀ out₀ state₀ turns₀ input disk line out state turns =
-    (length input ≡ length input₀)
+Inv-loop input₀ disk₀ line₀ out₀ run₀ read₀ written₀ most left₀ input disk line out run read written left =
+    (length input ≡ most)
     × (length disk ≡ length disk₀)
-    × (length line ≡ 65)
+    × (length line ≡ keptRoom)
     × (length out ≡ length out₀)
-    × AllRead state₀ (take (state₀ .len) line₀) disk₀ state (take (state .len) line) disk
+    × Reading most run read written left line disk
 
 abbrev μ-loop : tie.MeasureT-loop
-μ-loop input₀ disk₀ line₀ out₀ state₀ turns₀ input disk line out state turns = turns
+μ-loop input₀ disk₀ line₀ out₀ run₀ read₀ written₀ most left₀ input disk line out run read written left = left
+
+-- the places: a piece gone over, before its answers are written; its length known; that piece read; the turn's start; the function's
+-- entry
+abbrev ran : tie.After-write-piece Inv-loop μ-loop → tie.After-run-read Inv-loop μ-loop
+ran c = c .before .before .before .before .before .before .before .before
+
+abbrev known : tie.After-run-read Inv-loop μ-loop → tie.After-last Inv-loop μ-loop
+known c = c .before .before .before .before .before
+
+abbrev read : tie.After-last Inv-loop μ-loop → tie.After-read-piece Inv-loop μ-loop
+read c = c .before .before .before
+
+abbrev turn : tie.After-read-piece Inv-loop μ-loop → tie.In-loop Inv-loop μ-loop
+turn c = c .before .before
+
+abbrev entry : tie.At-loop Inv-loop μ-loop → tie.Start Inv-loop μ-loop
+entry c = c .before .before .before .before .before .before .before .before
+
+new-requires : tie.Need-new-requires Inv-loop μ-loop
+new-requires c κs = tt
+
+none-requires : tie.Need-none-requires Inv-loop μ-loop
+none-requires c κs = tt
+
+none-requires-2 : tie.Need-none-requires-2 Inv-loop μ-loop
+none-requires-2 c κs = tt
 
 loop-holds : tie.Need-loop-holds Inv-loop μ-loop
 loop-holds c =
-    let p = c .before .before .before .before .pre in (refl, refl, p .1 .1 .0, refl, record { bytes = []; written = []; reaches = Reaches.here; bounds = p .0; nothing = p .1 .0 })
+    let s = c .before .before .before .before .before .before .before in
+    let a = s .args in (
+      refl,
+      refl,
+      s .pre .1 .kept-fits,
+      refl,
+      reading-start (length (now (a .input))) (now (a .line)) (now (a .disk)) (omega (arith, s .good .0 .1)) (s .pre .0) (c .before .before .new .ensures) (c .before .none .ensures .0) (c .none2 .ensures),
+    )
 
 read-piece-requires : tie.Need-read-piece-requires Inv-loop μ-loop
 read-piece-requires c κs =
-    let i = c .before .before .before .before .before .loop .inv in
-    (i .4 .bounds, (i .4 .nothing, (i .2, omega (arith, i .0, i .3, c .before .before .before .before .before .before .before .before .before .before .pre .1 .1 .1))))
+    let i = c .before .before .loop .inv in
+    omega (arith, i .0, i .4 .going (c .before .loop-test .taken), c .before .loop-test .taken)
 
-sub-turns : tie.Need-sub-turns Inv-loop μ-loop
-sub-turns c =
-    omega (arith, c .before .before .before .before .before .before .before .before .before .before .before .before .before .before .before .loop-test .taken)
+last-requires : tie.Need-last-requires Inv-loop μ-loop
+last-requires c κs = tt
+
+-- the piece is in the input
+inside : (c : tie.After-last Inv-loop μ-loop) → c .last .result ≤ length (read c .read-piece .last .1 .0)
+inside c = omega (arith, c .last .ensures, read c .read-piece .ensures .0)
+
+run-read-requires : tie.Need-run-read-requires Inv-loop μ-loop
+run-read-requires c κs =
+    let n = c .before .before .before .before in
+    let l = turn (read n) .before in
+    let i = l .loop .inv in
+    let p = entry l .pre in
+    (omega (arith, inside n), (i .4 .between, record { kept-fits = i .2; answers-fit = omega (arith, read n .read-piece .kept .1 .0, i .0, i .3, p .1 .answers-fit) }))
+
+write-piece-requires : tie.Need-write-piece-requires Inv-loop μ-loop
+write-piece-requires c κs =
+    let r = c .before .before .before .before .before .before .before in
+    let i = turn (read (known r)) .before .loop .inv .4 in
+    (omega (arith, r .run-read .ensures .0 .within), omega (arith, i .answers, r .run-read .ensures .0 .answers, r .run-read .ensures .0 .between .lines))
+
+-- and fewer bytes than are left
+few : (c : tie.After-last Inv-loop μ-loop) → c .last .result ≤ turn (read c) .before .loop .left
+few c =
+    let t = turn (read c) in
+    omega (arith, inside c, read c .read-piece .kept .1 .0, t .before .loop .inv .0, t .loop-test .taken)
+
+sub-left : tie.Need-sub-left Inv-loop μ-loop
+sub-left c = omega (arith, few (known (ran (c .before .before))))
 
 loop-less : tie.Need-loop-less Inv-loop μ-loop
 loop-less c =
-    omega (arith, c .before .before .before .before .before .before .before .before .before .before .before .before .before .before .before .loop-test .taken)
+    let r = ran (c .before .before) in
+    fewer-left _ _ _ (omega (arith, few (known r))) (sym (r .run-read .ensures .1) ∙ c .if1 .taken)
 
 loop-again : tie.Need-loop-again Inv-loop μ-loop
 loop-again c =
-    let i = c .before .before .before .before .before .before .before .before .before .before .before .before .before .before .before .before .loop .inv in
-    let r = c .before .before .before .before .before .before .before .before .before .before .read-piece in
-    (omega (arith, r .kept .0, i .0), omega (arith, r .kept .1 .1 .0, i .1), omega (arith, r .kept .1 .1 .1 .0, i .2), omega (arith, r .kept .1 .1 .1 .1 .0, i .3), all-read (i .4) (r .ensures))
+    let w = c .before .before in
+    let r = ran w in
+    let n = known r in
+    let p = read n .read-piece in
+    let t = turn (read n) in
+    let i = t .before .loop .inv in
+    let k = r .run-read .kept .1 .1 .1 in (
+      p .kept .1 .0 ∙ i .0,
+      k .0 ∙ i .1,
+      k .1 .0 ∙ i .2,
+      k .1 .1 .0 ∙ i .3,
+      reading-more (i .4) (t .loop-test .taken) _ _ (r .run-read .ensures .0) (omega (arith, inside n)) (p .result) (n .last .ensures) (p .ensures .1) (w .write-piece .result) (w .write-piece .ensures) (few n),
+    )
 
 loop-less-2 : tie.Need-loop-less-2 Inv-loop μ-loop
-loop-less-2 c =
-    omega (arith, c .before .before .before .before .before .before .before .before .before .before .before .before .before .before .before .loop-test .taken)
+loop-less-2 c = omega (arith, turn (read (known (ran (c .before .before)))) .loop-test .taken)
 
 loop-again-2 : tie.Need-loop-again-2 Inv-loop μ-loop
 loop-again-2 c =
-    let i = c .before .before .before .before .before .before .before .before .before .before .before .before .before .before .before .before .loop .inv in
-    let r = c .before .before .before .before .before .before .before .before .before .before .read-piece in
-    (omega (arith, r .kept .0, i .0), omega (arith, r .kept .1 .1 .0, i .1), omega (arith, r .kept .1 .1 .1 .0, i .2), omega (arith, r .kept .1 .1 .1 .1 .0, i .3), all-read (i .4) (r .ensures))
+    let w = c .before .before in
+    let r = ran w in
+    let n = known r in
+    let p = read n .read-piece in
+    let t = turn (read n) in
+    let i = t .before .loop .inv in
+    let k = r .run-read .kept .1 .1 .1 in (
+      p .kept .1 .0 ∙ i .0,
+      k .0 ∙ i .1,
+      k .1 .0 ∙ i .2,
+      k .1 .1 .0 ∙ i .3,
+      reading-done (i .4) (t .loop-test .taken) _ _ (r .run-read .ensures .0) (omega (arith, inside n)) (p .result) (n .last .ensures) (p .ensures .1) (w .write-piece .result) (w .write-piece .ensures)
+          (sym (r .run-read .ensures .1) ∙ c .if1 .left),
+    )
 
 same-length : tie.Need-same-length Inv-loop μ-loop
-same-length c =
-    c .before .loop .inv .0
+same-length c = c .before .loop .inv .0
 
 same-length-2 : tie.Need-same-length-2 Inv-loop μ-loop
-same-length-2 c =
-    c .before .loop .inv .1
+same-length-2 c = c .before .loop .inv .1
 
 same-length-3 : tie.Need-same-length-3 Inv-loop μ-loop
-same-length-3 c =
-    omega (arith, c .before .loop .inv .2, c .before .before .before .before .before .before .pre .1 .1 .0)
+same-length-3 c = c .before .loop .inv .2 ∙ sym (entry (c .before) .pre .1 .kept-fits)
 
 same-length-4 : tie.Need-same-length-4 Inv-loop μ-loop
-same-length-4 c =
-    c .before .loop .inv .3
+same-length-4 c = c .before .loop .inv .3
 
 returns : tie.Need-returns Inv-loop μ-loop
-returns c =
-    c .before .loop .inv .4
+returns c = reading-ends (c .before .loop .inv .4) (c .loop-test .left)
 
 pub read-all-spec : {M : Type 1} → statement M
 read-all-spec =
@@ -78,9 +154,15 @@ read-all-spec =
     (tie.spec
     Inv-loop
     μ-loop
+    new-requires
+    none-requires
+    none-requires-2
     loop-holds
     read-piece-requires
-    sub-turns
+    last-requires
+    run-read-requires
+    write-piece-requires
+    sub-left
     loop-less
     loop-again
     loop-less-2

@@ -1,25 +1,64 @@
--- A call's result with the disk, by what the call ensures of its answer and memory.
+-- What a line's call leaves is the model's step, by the parts: memory, disk, answer and value.
 use Prim.Native.Nat.{ℕ}
-use mathlib.Core.Path.{_≡_, ap, ap₂, _∙_}
+use mathlib.Core.Path.{_≡_, sym, ap, ap₂, _∙_}
+use mathlib.Core.Bool.{Bool, cond}
 use mathlib.Core.List.{List}
+use lib.ListN.{length}
+use lib.Dec.{eqb}
+use borrow.Author.Tests.{eq-eqb, ne-eqb}
 use Rattle.model.specs.declared.memory.Memory.{Memory}
-use Rattle.model.specs.declared.answer.Answer.{Answer}
-use Rattle.model.specs.declared.answer.StoresAnswer.{StoresAnswer}
-use Rattle.model.specs.declared.answer.StatusAnswer.{StatusAnswer}
-use Rattle.model.specs.Answers.{doneNumber, storesNumber, storesValue, statusNumber, statusValue}
-use Rattle.model.specs.Bench.{Bench, benchOf}
-use Rattle.bench_step.specs.declared.next.Next.{Next}
-use Rattle.bench_step.specs.Next.{nextOf, withDisk}
+use Rattle.model.specs.declared.line.Line.{Line}
+use Rattle.model.specs.declared.line.Op.{Op}
+use Rattle.model.specs.declared.line.Parsed.{Parsed}
+use Rattle.model.specs.Bench.{benchOf, benchCall, benchStep}
 
-module _ (r : Next) (memory known : Memory) (disk : List ℕ) (same : memory ≡ known) where
-  pub changed-call : (answer told : Answer) → r ≡ nextOf memory (doneNumber answer) 0 → answer ≡ told → withDisk r disk ≡ benchOf known disk (doneNumber told) 0
-  changed-call answer told e a =
-      ap (λ (next : Next). withDisk next disk) e ∙ ap₂ (λ (m : Memory) (x : Answer). benchOf m disk (doneNumber x) 0) same a
+-- the step of a line, with the disk as long as before
+pub record Stepped (parsed : Parsed) (memory : Memory) (disk : List ℕ) (memory-next : Memory) (disk-next : List ℕ) (answer value : ℕ) : Type 0 where
+  pub step : benchOf memory-next disk-next answer value ≡ benchStep parsed (benchOf memory disk 0 0)
+  pub disk-length : length disk-next ≡ length disk
 
-  pub stored-call : (answer told : StoresAnswer) → r ≡ nextOf memory (storesNumber answer) (storesValue answer) → answer ≡ told → withDisk r disk ≡ benchOf known disk (storesNumber told) (storesValue told)
-  stored-call answer told e a =
-      ap (λ (next : Next). withDisk next disk) e ∙ ap₂ (λ (m : Memory) (x : StoresAnswer). benchOf m disk (storesNumber x) (storesValue x)) same a
+-- a bench by its parts
+pub bench-is : {memory known-memory : Memory} {disk known-disk : List ℕ} {answer known-answer value known-value : ℕ}
+    → memory ≡ known-memory
+    → disk ≡ known-disk
+    → answer ≡ known-answer
+    → value ≡ known-value
+    → benchOf memory disk answer value ≡ benchOf known-memory known-disk known-answer known-value
+bench-is {known-memory = known-memory} {disk} {known-disk} {answer} {value = value} m d a v =
+    ap₂ (λ (x : Memory) (y : List ℕ). benchOf x y answer value) m d ∙ ap₂ (benchOf known-memory known-disk) a v
 
-  pub measured-call : (answer told : StatusAnswer) → r ≡ nextOf memory (statusNumber answer) (statusValue answer) → answer ≡ told → withDisk r disk ≡ benchOf known disk (statusNumber told) (statusValue told)
-  measured-call answer told e a =
-      ap (λ (next : Next). withDisk next disk) e ∙ ap₂ (λ (m : Memory) (x : StatusAnswer). benchOf m disk (statusNumber x) (statusValue x)) same a
+-- the same of an answer's number and value
+module _ {A : Type 0} (numberOf valueOf : A → ℕ) where
+  pub answer-is : {memory known-memory : Memory} {disk known-disk : List ℕ} {number value : ℕ} {answer known-answer : A}
+      → memory ≡ known-memory
+      → disk ≡ known-disk
+      → number ≡ numberOf answer
+      → value ≡ valueOf answer
+      → answer ≡ known-answer
+      → benchOf memory disk number value ≡ benchOf known-memory known-disk (numberOf known-answer) (valueOf known-answer)
+  answer-is m d n v a = bench-is m d (n ∙ ap numberOf a) (v ∙ ap valueOf a)
+
+module _ {parsed : Parsed} {line : Line} {op : Op} (told : parsed ≡ Parsed.Call line) (op-told : line .op ≡ op) {memory memory-next : Memory} {disk disk-next : List ℕ} {answer value : ℕ} where
+  -- a line's call, by its op
+  pub call-step : length disk-next ≡ length disk
+      → benchOf memory-next disk-next answer value ≡ benchCall op (line .slot) (line .n) memory disk
+      → Stepped parsed memory disk memory-next disk-next answer value
+  unfolding benchStep
+  call-step same e = record {
+    step =
+        e
+        ∙ ap (λ (o : Op). benchCall o (line .slot) (line .n) memory disk) (sym op-told)
+        ∙ ap (λ (p : Parsed). benchStep p (benchOf memory disk 0 0)) (sym told);
+    disk-length = same;
+  }
+
+-- the memory after an open: what it gives, or refused the old one
+module _ {number told : ℕ} (same : number ≡ told) where
+  test : {t : Bool} → eqb number 0 ≡ t → t ≡ eqb told 0
+  test e = sym e ∙ ap (λ (n : ℕ). eqb n 0) same
+
+  pub opened-memory : {given known : Memory} (old : Memory) → given ≡ known → number ≡ 0 → given ≡ cond (eqb told 0) known old
+  opened-memory {known = known} old e accepted = e ∙ ap (λ (t : Bool). cond t known old) (test (eq-eqb number 0 accepted))
+
+  pub kept-memory : (known old : Memory) → (number ≡ 0 → ⊥) → old ≡ cond (eqb told 0) known old
+  kept-memory known old refused = ap (λ (t : Bool). cond t known old) (test (ne-eqb number 0 refused))

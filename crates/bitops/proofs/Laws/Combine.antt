@@ -15,7 +15,7 @@ use Rattle.bitmap.specs.Bits.{isSet, bit, bitmapOf, noBitsFrom, IsBitmap}
 use Rattle.bitmap.specs.Majority.{majority}
 use Rattle.bitmap.proofs.Laws.Word.{isSet-and, isSet-or, isSet-xor, isSet-not}
 use Rattle.bitmap.proofs.Laws.Bits.{noBits-bit, below-or-from}
-use Rattle.bitmap.proofs.Laws.Majority.{majorityWord, majorityWord-lt, isSet-majority, isSet-rollback}
+use Rattle.bitmap.proofs.Laws.Majority.{majorityWord-lt, isSet-rollback}
 use Rattle.bitops.specs.Combine.{rollbackWord, refreshWord, zip3}
 use Rattle.bitops.proofs.Laws.Overwrite.{Overwritten, overwritten-at, overwritten-step, overwritten-all}
 use Rattle.bitops.proofs.Laws.Bitmap.{bitmap-of-bits}
@@ -117,15 +117,6 @@ module _ (f : ℕ → ℕ → ℕ → ℕ) (g : Bool → Bool → Bool → Bool)
 
 -- ---- the three combinations
 
-pub majority-bitwise : Bitwise majorityWord majority
-unfolding majority
-majority-bitwise =
-    record {
-      small = majorityWord-lt 32;
-      bits = λ x y z i hx hy hz l. isSet-majority x y z i;
-      none = refl;
-    }
-
 pub rollback-bitwise : Bitwise rollbackWord (λ c s t. majority c s (not t))
 unfolding rollbackWord majority
 rollback-bitwise =
@@ -171,12 +162,6 @@ refresh-bitwise =
 -- ---- the bitmaps of a volume of m blocks
 
 module _ (m : ℕ) (h : m ≤ maxBlocks) where
-  -- the SAM of a commit
-  pub majority-bitmap : (sam «com» tam : List ℕ) → IsBitmap sam → IsBitmap «com» → IsBitmap tam
-      → noBitsFrom m sam ≡ true → noBitsFrom m «com» ≡ true → noBitsFrom m tam ≡ true
-      → zip3 majorityWord sam «com» tam ≡ bitmapOf m (λ b. majority (bit sam b) (bit «com» b) (bit tam b))
-  majority-bitmap sam «com» tam hs hc ht = zip3-bitmap majorityWord majority majority-bitwise sam «com» tam hs hc ht m h
-
   -- the COM of a rollback
   pub rollback-bitmap : («com» sam tam : List ℕ) → IsBitmap «com» → IsBitmap sam → IsBitmap tam
       → noBitsFrom m «com» ≡ true → noBitsFrom m sam ≡ true → noBitsFrom m tam ≡ true

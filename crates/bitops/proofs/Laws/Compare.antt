@@ -20,7 +20,7 @@ use Rattle.model.specs.Stores.{Store, _≔_, changesFrom}
 -- ---- words
 
 -- an or is 0 just if both are
-eqb-or : (a b : ℕ) → eqb (bitOr a b) 0 ≡ (eqb a 0 && eqb b 0)
+pub eqb-or : (a b : ℕ) → eqb (bitOr a b) 0 ≡ (eqb a 0 && eqb b 0)
 eqb-or a b = go (eqb a 0) refl
   where
     go : (t : Bool) → eqb a 0 ≡ t → eqb (bitOr a b) 0 ≡ (t && eqb b 0)
@@ -28,7 +28,7 @@ eqb-or a b = go (eqb a 0) refl
     go false e = ne-eqb (bitOr a b) 0 (λ q. eqb-false a 0 e (omega (arith, or-add-and a b, and-le-r a b)))
 
 -- an exclusive or is 0 just if the two are the same
-eqb-xor : (a b : ℕ) → eqb (bitXor a b) 0 ≡ eqb a b
+pub eqb-xor : (a b : ℕ) → eqb (bitXor a b) 0 ≡ eqb a b
 eqb-xor a b = go (eqb a b) refl
   where
     go : (t : Bool) → eqb a b ≡ t → eqb (bitXor a b) 0 ≡ t

@@ -7,7 +7,8 @@ use Rattle.model.specs.declared.error.Error.{Error}
 use Rattle.model.specs.declared.memory.Memory.{Memory}
 use Rattle.model.specs.Memory.{zeroMemory}
 use Rattle.model.specs.Errors.{firstOr, first, unlessRefused}
-use Rattle.model.specs.Valid.{valid, blocksInRange}
+use Rattle.model.specs.Valid.{valid}
+use Rattle.bitmap.specs.Sizes.{blocksInRange}
 use Rattle.model.specs.Causes.{memoryInvalid}
 use Rattle.model.specs.Calls.Opening.{opened, openMemory}
 use Rattle.model.specs.Calls.Start.{startError, startMemory}

@@ -13,10 +13,9 @@ use Rattle.model.specs.declared.memory.Pending.{Pending}
 use Rattle.model.specs.declared.memory.Pending.the-variants.{Nothing, Commit, Recovery}
 use Rattle.model.specs.Errors.{unlessRefused}
 use Rattle.model.specs.Stores.{writes, checkpointStores}
-use Rattle.model.specs.Pending.{storesDone}
+use Rattle.model.specs.Pending.{storesDone, isNothing}
 use Rattle.model.specs.Valid.{pendingValid}
 use Rattle.model.specs.Disk.{dueStores, diskMatches}
-use Rattle.model.specs.Causes.{isNothing}
 use Rattle.model.specs.Calls.Opening.{openError}
 use Rattle.model.specs.Calls.Storing.{storeError, advanced, nextStored, storeMemory, storeDisk}
 use Rattle.model.proofs.Laws.Accepted.{store-accepted}
@@ -37,7 +36,7 @@ module _ (memory : Memory) (disk : List ℕ) (eight : length (memory .slots) ≡
   unfolding isNothing storesDone dueStores diskMatches checkpointStores
   by-pending Nothing e valid matches = absurd (true≢false e)
   by-pending (Commit s k due) e valid matches = commit-store memory disk s k due parts sam (c .size) eight valid matches
-  by-pending (Recovery k due) e valid matches = recovery-store memory disk k due parts (c .size) opens valid (matching-parts memory disk k due matches)
+  by-pending (Recovery k due) e valid matches = recovery-store memory disk k due parts (c .size) opens valid (matching-parts (memory .blocks) (memory .sam .words) disk k due matches)
 
   pub store-consistent : Consistent (storeMemory memory disk) (storeDisk memory disk)
   unfolding storeMemory storeDisk nextStored unlessRefused

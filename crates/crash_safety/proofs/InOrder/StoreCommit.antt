@@ -32,7 +32,7 @@ module _ (memory : Memory) (disk : List ℕ) (s k due : ℕ) (parts : ValidParts
     (size : length disk ≡ diskWords)
     (eight : length (memory .slots) ≡ slotCount)
     (pending : pendingValid memory (Commit s k due) ≡ true)
-    (matches : sameWords disk (after k (commitStores (entriesOf memory s)) (baseImage memory disk)) ≡ true) where
+    (matches : sameWords disk (after k (commitStores (entriesOf memory s)) (baseImage (memory .blocks) (memory .sam .words) disk)) ≡ true) where
   commit : CommitParts memory s k due
   commit = commit-parts memory s k due pending
 

@@ -15,7 +15,7 @@ use Rattle.model.specs.Memory.{withPending}
 use Rattle.model.specs.Stores.{closingStores}
 use Rattle.model.specs.Pending.{storesDone, storesDue, oneMoreDone, finished}
 use Rattle.model.specs.Valid.{pendingValid}
-use Rattle.model.specs.Disk.{diskMatches, recoveryMatches}
+use Rattle.model.specs.Disk.{diskMatches}
 use Rattle.model.specs.Calls.Opening.{openError}
 use Rattle.model.specs.Calls.Storing.{advanced}
 use Rattle.model.proofs.Laws.Writes.{length-writes}
@@ -29,7 +29,7 @@ use Rattle.crash_safety.specs.InOrder.{Consistent}
 module _ (memory : Memory) (disk : List ℕ) (k due : ℕ) (parts : ValidParts memory) (size : length disk ≡ diskWords)
     (opens : openError disk ≡ none)
     (pending : pendingValid memory (Recovery k due) ≡ true)
-    (m : RecoveryMatches memory disk k due) where
+    (m : RecoveryMatches (memory .blocks) (memory .sam .words) disk k due) where
   abbrev stored : List ℕ
   stored = checkpointNext closingStores disk k
 
@@ -37,12 +37,14 @@ module _ (memory : Memory) (disk : List ℕ) (k due : ℕ) (parts : ValidParts m
   stored-size = length-writes (take 1 (drop k _)) disk ∙ size
 
   more-words : k + 1 < due → Consistent (withPending memory (Recovery (k + 1) due)) stored
-  unfolding diskMatches recoveryMatches storesDone storesDue oneMoreDone
+  unfolding diskMatches storesDone storesDue oneMoreDone
   more-words h =
       record {
         is-valid = parts-valid (withPending memory (Recovery (k + 1) due)) (more-valid memory (Recovery k due) parts pending h);
         size = stored-size;
-        matches = parts-matching memory stored (k + 1) due (checkpointed-matches closingStores disk opens k (omega (arith, m .due-is)) memory due m);
+        matches =
+            parts-matching (memory .blocks) (memory .sam .words) stored (k + 1) due
+            (checkpointed-matches closingStores disk opens k (omega (arith, m .due-is)) (memory .blocks) (memory .sam .words) due m);
       }
 
   word-one : k + 1 ≡ due → Consistent (withPending memory Nothing) stored
@@ -51,7 +53,7 @@ module _ (memory : Memory) (disk : List ℕ) (k due : ℕ) (parts : ValidParts m
       record {
         is-valid = parts-valid (withPending memory Nothing) (pending-valid memory Nothing parts refl);
         size = stored-size;
-        matches = cleared-matches disk opens memory k due (omega (arith, m .due-is)) m;
+        matches = cleared-matches disk opens (memory .blocks) (memory .sam .words) k due (omega (arith, m .due-is)) m;
       }
 
   pub recovery-store : Consistent (advanced memory (Recovery k due)) stored

@@ -11,14 +11,14 @@ use lib.Seq.{take-nil, append-snoc, set-at}
 use lib.Dec.{ltb, eqb}
 use borrow.Author.Tests.{eqb-true, lt-ltb}
 use Rattle.model.specs.Stores.{Store, _≔_, writes, changesFrom, changes}
-use Rattle.journal.specs.Matching.{differs, checkpointedWord}
+use Rattle.journal.specs.Matching.{checkpointedWord}
 use Rattle.disk_log.proofs.Laws.Tests.{ltb-same}
 
 -- the old words with the first of the changed ones new
 unfoldable pub checkpoint : ℕ → List ℕ → List ℕ → List ℕ
 checkpoint checkpointed [] news = []
 checkpoint checkpointed (old ∷ olds) [] = old ∷ olds
-checkpoint checkpointed (old ∷ olds) (new ∷ news) = checkpointedWord checkpointed 0 old new ∷ checkpoint (checkpointed - differs old new) olds news
+checkpoint checkpointed (old ∷ olds) (new ∷ news) = checkpointedWord checkpointed 0 old new ∷ checkpoint (checkpointed - cond (eqb old new) 0 1) olds news
 
 -- with none of them new they are the old ones
 pub checkpoint-none : (olds news : List ℕ) → checkpoint 0 olds news ≡ olds

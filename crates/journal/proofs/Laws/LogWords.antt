@@ -1,7 +1,7 @@
 -- The log words of a disk while a commit is stored: entry by entry, and all at once.
 use Prim.Native.Nat.{ℕ, zero, suc, _+_, _-_, _*_, _≤_, _<_}
 use mathlib.Core.Path.{_≡_, refl, sym, ap, ap₂, _∙_}
-use mathlib.Core.Bool.{Bool, true, false, cond, _&&_}
+use mathlib.Core.Bool.{Bool, true, false, cond, _&&_, and-assoc}
 use mathlib.Core.List.{List, [], _∷_}
 use native.Mathlib.Numerals.{add-one}
 use native.Mathlib.Omega.{arith}
@@ -16,7 +16,7 @@ use Rattle.model.proofs.Laws.Writes.{words-same}
 use Rattle.model.proofs.Laws.Places.{writes-shift, shift}
 use Rattle.model.proofs.Laws.StoreLists.{logStores-from, take-map}
 use Rattle.journal.specs.Matching.{entryWritten}
-use Rattle.disk_log.proofs.Laws.Tests.{and-right, and-assoc, leb-same}
+use Rattle.disk_log.proofs.Laws.Tests.{and-right, leb-same}
 
 -- whether the words of the entries from i on are as the stores done leave them
 unfoldable pub logMatches : List ℕ → ℕ → ℕ → List Store → Bool

@@ -11,6 +11,7 @@ use Rattle.bitmap.specs.Sizes.{bitmapWords}
 use Rattle.model.specs.Sizes.{lengthAt, bitmapAt, logAt}
 use Rattle.model.specs.Stores.{_≔_, changes, commitStores}
 use Rattle.model.proofs.Laws.Changes.{changes-length}
+use Rattle.journal.specs.Given.{Changing}
 use Rattle.journal.specs.Next.{IsChange, IsNext}
 use Rattle.journal.proofs.Laws.NextStore.{next-log, next-point, next-word, next-last}
 
@@ -32,21 +33,22 @@ module _ (old new : List ℕ) (o : length old ≡ bitmapWords) where
       → IsNext (commitStores (changes old new)) done (logAt + done) (getD new k 0)
   logged-contents done k h c n = logged done k false h c (ne-eqb (done % 2) 0 n)
 
-  module _ (changed done : ℕ) (d : changed ≡ length (changes old new)) where
-    -- the commit point
-    pub point-next : done ≡ 2 * changed → IsNext (commitStores (changes old new)) done lengthAt changed
-    point-next e =
-        record { within = omega arith; next = next-point (changes old new) done (omega arith) ∙ rw d }
+module _ (old new : List ℕ) {changed : ℕ} (c : Changing old new changed) (done : ℕ) where
+  -- the commit point
+  pub point-next : done ≡ 2 * changed → IsNext (commitStores (changes old new)) done lengthAt changed
+  point-next e =
+      record { within = omega arith; next = next-point (changes old new) done (omega (arith, c .changed-is)) ∙ rw (c .changed-is) }
 
-    -- a changed word
-    pub word-next : (i k : ℕ) → done ≡ 2 * changed + 1 + i → IsChange old new i k
-        → IsNext (commitStores (changes old new)) done (bitmapAt + k) (getD new k 0)
-    word-next i k e c =
-        record {
-          within = omega (arith, c .within);
-          next = next-word (changes old new) done i (k ≔ getD new k 0) (omega arith) (c .entry);
-        }
+  -- a changed word
+  pub word-next : (i k : ℕ) → done ≡ 2 * changed + 1 + i → IsChange old new i k
+      → IsNext (commitStores (changes old new)) done (bitmapAt + k) (getD new k 0)
+  word-next i k e is =
+      record {
+        within = omega (arith, is .within);
+        next = next-word (changes old new) done i (k ≔ getD new k 0) (omega (arith, c .changed-is)) (is .entry);
+      }
 
-    -- word 1 to 0
-    pub last-next : (i : ℕ) → done ≡ 2 * changed + 1 + i → i ≡ changed → IsNext (commitStores (changes old new)) done lengthAt 0
-    last-next i e f = record { within = omega arith; next = next-last (changes old new) done i (omega arith) (f ∙ d) }
+  -- word 1 to 0
+  pub last-next : (i : ℕ) → done ≡ 2 * changed + 1 + i → i ≡ changed → IsNext (commitStores (changes old new)) done lengthAt 0
+  last-next i e f =
+      record { within = omega arith; next = next-last (changes old new) done i (omega (arith, c .changed-is)) (f ∙ c .changed-is) }

@@ -1,20 +1,21 @@
 -- The next store of a commit and of a recovery, phase by phase.
-use Prim.Native.Nat.{ℕ, zero, suc, _+_, _*_, _/_, _%_, _≤_, _<_}
+use Prim.Native.Nat.{ℕ, zero, suc, _+_, _*_, _/_, _%_, _<_}
 use mathlib.Core.Path.{_≡_, sym, ap, _∙_}
-use mathlib.Core.Bool.{true, cond}
+use mathlib.Core.Bool.{cond}
 use mathlib.Core.List.{List, [], _∷_, _++_, map}
 use native.Mathlib.Nat.{add-zero}
 use native.Mathlib.Omega.{arith}
-use lib.ListN.{length, getD, take, drop, length-drop, length-map}
+use lib.ListN.{length, getD, take, drop, set, length-drop, length-map}
 use lib.Seq.{take-append-le, drop-append-le, drop-append-add, drop-at}
 use lib.Dec.{eqb}
-use Rattle.model.specs.Sizes.{diskWords, lengthAt, bitmapAt, logAt}
-use Rattle.model.specs.Stores.{Store, _≔_, logStores, onDisk, checkpointWith, journalWith, checkpointStores, commitStores}
-use Rattle.model.specs.Disk.{diskBlocks, logLength, logEntries, logValid}
+use Rattle.model.specs.Sizes.{lengthAt, bitmapAt, logAt}
+use Rattle.model.specs.Stores.{Store, _≔_, writes, logStores, onDisk, checkpointWith, journalWith, checkpointStores, commitStores}
+use Rattle.model.specs.Disk.{logLength, logEntries}
 use Rattle.model.proofs.Laws.StoreLists.{length-logStores}
+use Rattle.journal.specs.Given.{Logged}
 use Rattle.journal.specs.Next.{IsNext}
 use Rattle.disk_log.proofs.Laws.Log.{entry-at, entries-count}
-use Rattle.disk_log.proofs.Laws.Replay.{entries-few, place-below}
+use Rattle.journal.proofs.Laws.Given.{logged-few, logged-below}
 
 -- ---- the first store behind some of a list
 
@@ -103,19 +104,26 @@ module _ (es : List Store) where
 
 -- ---- the stores of a recovery
 
-module _ (disk : List ℕ) (l : length disk ≡ diskWords) (b : diskBlocks disk ≤ 4096) (v : logValid disk ≡ true) where
+module _ (disk : List ℕ) (logged : Logged disk) where
   -- a logged word
-  pub recovery-word : (done number contents : ℕ) → done < logLength disk
+  pub recovery-word : (done : ℕ) {number contents : ℕ} → done < logLength disk
       → number ≡ getD disk (logAt + 2 * done) 0
       → contents ≡ getD disk (logAt + 2 * done + 1) 0
       → IsNext (checkpointStores (logEntries disk)) done (bitmapAt + number) contents
-  recovery-word done number contents h n c =
+  recovery-word done {number} {contents} h n c =
       record {
-        within = omega (arith, place-below disk done l b v h);
-        next = checkpoint-word done (logEntries disk) (number ≔ contents) (rw (entry-at disk done l (entries-few disk b v) h, n, c));
+        within = omega (arith, logged-below disk done logged h);
+        next = checkpoint-word done (logEntries disk) (number ≔ contents) (rw (entry-at disk done (logged .size) (logged-few disk logged) h, n, c));
       }
 
   -- word 1 to 0
   pub recovery-last : (done : ℕ) → done ≡ logLength disk → IsNext (checkpointStores (logEntries disk)) done lengthAt 0
   recovery-last done e =
-      record { within = omega arith; next = checkpoint-last done (logEntries disk) (e ∙ sym (entries-count disk l (entries-few disk b v))) }
+      record { within = omega arith; next = checkpoint-last done (logEntries disk) (e ∙ sym (entries-count disk (logged .size) (logged-few disk logged))) }
+
+-- ---- the next store made
+
+pub made : (disk : List ℕ) {stores : List Store} {done place value : ℕ} → IsNext stores done place value
+    → set disk place value ≡ writes (take 1 (drop done stores)) disk
+unfolding writes
+made disk is = sym (ap (λ (s : List Store). writes s disk) (is .next))

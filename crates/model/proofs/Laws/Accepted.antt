@@ -7,14 +7,15 @@ use mathlib.Core.Option.{none}
 use mathlib.Core.List.{List}
 use lib.ListN.{length}
 use lib.Dec.{leb, eqb}
-use borrow.Author.Tests.{leb-true, leb-false, ltb-false, eqb-true, eq-eqb, not-false}
-use Rattle.bitmap.specs.Sizes.{slotCount, maxCount}
+use borrow.Author.Tests.{leb-true, leb-false, ltb-true, ltb-false, eqb-true, eq-eqb, not-false}
+use Rattle.bitmap.specs.Sizes.{slotCount, maxCount, blocksInRange, countInRange, slotInRange}
 use Rattle.model.specs.Types.{Pending, Nothing, Commit, Recovery, Memory}
 use Rattle.model.specs.Sizes.{diskWords}
 use Rattle.model.specs.Memory.{slotAt, isActive, isPrecommitted, samBit, comBit}
-use Rattle.model.specs.Valid.{valid, blocksInRange}
+use Rattle.model.specs.Valid.{valid}
 use Rattle.model.specs.Disk.{diskMatches}
-use Rattle.model.specs.Causes.{memoryInvalid, diskLengthWrong, diskMismatched, blocksOutOfRange, isNothing, nothingPending, workPending, slotOutOfRange, slotActive, slotInactive, slotPrecommitted, slotNotPrecommitted, countOutOfRange, listShort, available, tooFewAvailable, blockOutOfRange, blockFree, blockFreeing}
+use Rattle.model.specs.Causes.{memoryInvalid, diskLengthWrong, diskMismatched, blocksOutOfRange, nothingPending, workPending, slotOutOfRange, slotActive, slotInactive, slotPrecommitted, slotNotPrecommitted, countOutOfRange, listShort, available, tooFewAvailable, blockOutOfRange, blockFree, blockFreeing}
+use Rattle.model.specs.Pending.{isNothing}
 use Rattle.model.specs.Calls.Format.{formatError}
 use Rattle.model.specs.Calls.Start.{startError}
 use Rattle.model.specs.Calls.Allocate.{allocateError}
@@ -46,8 +47,8 @@ nothing-pending memory e = is-nothing (memory .pending) (not-false (isNothing (m
 
 -- 10
 slot-below : (s : ℕ) → slotOutOfRange s ≡ false → s < slotCount
-unfolding slotOutOfRange
-slot-below s e = leb-false slotCount s e
+unfolding slotOutOfRange slotInRange
+slot-below s e = ltb-true s slotCount (not-false (slotInRange s) e)
 
 -- 12
 slot-active : (memory : Memory) (s : ℕ) → slotInactive memory s ≡ false → isActive (slotAt memory s .state) ≡ true
@@ -100,7 +101,7 @@ module _ (memory : Memory) (s : ℕ) where
     pub enough : count ≤ length (available memory)
 
   pub allocate-accepted : (count : ℕ) (list : List ℕ) → allocateError memory s count list ≡ none → AllocateAccepted count list
-  unfolding allocateError slotPrecommitted countOutOfRange listShort tooFewAvailable
+  unfolding allocateError slotPrecommitted countOutOfRange countInRange listShort tooFewAvailable
   allocate-accepted count list e =
       let c1 = first-none _ e in
       let c8 = c1 .1 in

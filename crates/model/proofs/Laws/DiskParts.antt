@@ -9,11 +9,10 @@ use lib.ListN.{length, drop, length-append, length-drop, take-append-drop}
 use lib.Seq.{take-at, drop-at, length-take-le}
 use lib.Dec.{leb, eqb}
 use borrow.Author.Tests.{leb-true, le-leb, eqb-true, eq-eqb, not-false}
-use Rattle.bitmap.specs.Sizes.{maxBlocks, bitmapWords, wordsFor}
+use Rattle.bitmap.specs.Sizes.{maxBlocks, bitmapWords, wordsFor, blocksInRange}
 use Rattle.bitmap.specs.Bits.{noBitsFrom}
 use Rattle.model.specs.Sizes.{diskWords, bitmapAt, logAt, logWords}
 use Rattle.model.specs.Stores.{Store, writes, onDisk, commitPoint}
-use Rattle.model.specs.Valid.{blocksInRange}
 use Rattle.model.specs.Disk.{diskBlocks, wordOne, lengthIn, logLength, diskBitmap, diskOf, entriesIn, logEntries, entriesValid, logValid, durable}
 use Rattle.model.specs.Causes.{diskLengthWrong, diskBlocksWrong, diskBitmapWrong, diskLogWrong}
 use Rattle.model.specs.Calls.Opening.{openError}

@@ -66,12 +66,12 @@ module _ (disk : List ℕ) (opens : openError disk ≡ none) where
       })
 
   -- all of the log is still to be written
-  due-matches : (due : ℕ) → due ≡ logLength disk + 1 → recoveryMatches (memoryWith (Recovery 0 due)) disk 0 due ≡ true
+  due-matches : (due : ℕ) → due ≡ logLength disk + 1 → recoveryMatches (diskBlocks disk) (durable disk) disk 0 due ≡ true
   unfolding durable
   due-matches due due-is =
-      parts-matching (memoryWith (Recovery 0 due)) disk 0 due
+      parts-matching (diskBlocks disk) (durable disk) disk 0 due
       (record {
-        blocks = refl;
+        blocks-is = refl;
         due-is = sym due-is;
         log = log-valid disk (parts .few-entries) (parts .entries);
         agrees = durable-agrees disk opens;

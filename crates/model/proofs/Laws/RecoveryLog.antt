@@ -10,7 +10,6 @@ use lib.ListN.{length, take, drop, take-append-drop, length-map, length-drop, dr
 use lib.Seq.{drop-append-le, take-append-le, drop-append-add, drop-drop}
 use Rattle.bitmap.specs.Sizes.{bitmapWords}
 use Rattle.bitmap.specs.Bits.{noBitsFrom}
-use Rattle.model.specs.Types.{Memory}
 use Rattle.model.specs.Sizes.{logAt, logWords}
 use Rattle.model.specs.Stores.{Store, writes, onDisk, checkpointWith, closingStores}
 use Rattle.model.specs.Valid.{sameWords}
@@ -117,15 +116,15 @@ module _ (closing : List Store) (disk : List ℕ) (opens : openError disk ≡ no
         ∙ sym (writes-append one (drop 1 (drop k (logEntries disk))) words)
         ∙ ap (λ (es : List Store). writes es words) (take-append-drop 1 (drop k (logEntries disk)))
 
-    pub checkpointed-matches : (memory : Memory) (due : ℕ)
-        → RecoveryMatches memory disk k due → RecoveryMatches memory (checkpointNext closing disk k) (k + 1) due
-    checkpointed-matches memory due m =
+    pub checkpointed-matches : (blocks : ℕ) (sam : List ℕ) (due : ℕ)
+        → RecoveryMatches blocks sam disk k due → RecoveryMatches blocks sam (checkpointNext closing disk k) (k + 1) due
+    checkpointed-matches blocks sam due m =
         record {
-          blocks = blocks;
+          blocks-is = blocks-is;
           due-is = ap (λ (d : List ℕ). logLength d + 1) checkpointed ∙ m .due-is;
           log = log-valid (checkpointNext closing disk k) (after .few-entries) (after .entries);
-          agrees = ap (entriesAgree (memory .sam .words)) entries ∙ m .agrees;
-          noBits = ap (λ (n : ℕ). noBitsFrom n (diskBitmap (checkpointNext closing disk k))) (sym blocks) ∙ after .noBits;
+          agrees = ap (entriesAgree sam) entries ∙ m .agrees;
+          noBits = ap (λ (n : ℕ). noBitsFrom n (diskBitmap (checkpointNext closing disk k))) (sym blocks-is) ∙ after .noBits;
           rest =
               ap₂ (λ (es : List Store) (w : List ℕ). writes (drop (k + 1) es) w) entries
               (ap (λ (d : List ℕ). diskBitmap d) checkpointed ∙ diskOf-bitmap (diskBlocks disk) (wordOne disk) (writes one words) log one-size)
@@ -136,8 +135,8 @@ module _ (closing : List Store) (disk : List ℕ) (opens : openError disk ≡ no
         after : Opens (checkpointNext closing disk k)
         after = opens-parts (checkpointNext closing disk k) checkpointed-opens
 
-        blocks : diskBlocks (checkpointNext closing disk k) ≡ memory .blocks
-        blocks = ap (λ (d : List ℕ). diskBlocks d) checkpointed ∙ m .blocks
+        blocks-is : diskBlocks (checkpointNext closing disk k) ≡ blocks
+        blocks-is = ap (λ (d : List ℕ). diskBlocks d) checkpointed ∙ m .blocks-is
 
         entries : logEntries (checkpointNext closing disk k) ≡ logEntries disk
         entries =
@@ -148,19 +147,20 @@ module _ (closing : List Store) (disk : List ℕ) (opens : openError disk ≡ no
   -- ---- a closing store is made
 
   -- every logged word has been rewritten: words 2 to 129 are SAM
-  pub all-rewritten : (memory : Memory) (k due : ℕ) → logLength disk ≤ k → RecoveryMatches memory disk k due → diskBitmap disk ≡ memory .sam .words
+  pub all-rewritten : (blocks : ℕ) (sam : List ℕ) (k due : ℕ) → logLength disk ≤ k → RecoveryMatches blocks sam disk k due → diskBitmap disk ≡ sam
   unfolding writes
-  all-rewritten memory k due h m =
+  all-rewritten blocks sam k due h m =
       ap (λ (es : List Store). writes es words)
       (sym (drop-of-length-le (logEntries disk) {i = k} (omega (arith, entries-length disk opens))))
       ∙ m .rest
 
   -- and that is what the disk stands for
-  pub rewritten-durable : (memory : Memory) (k due : ℕ) → logLength disk ≤ k → RecoveryMatches memory disk k due → durable disk ≡ diskBitmap disk
+  pub rewritten-durable : (blocks : ℕ) (sam : List ℕ) (k due : ℕ) → logLength disk ≤ k → RecoveryMatches blocks sam disk k due
+      → durable disk ≡ diskBitmap disk
   unfolding durable
-  rewritten-durable memory k due h m =
-      let sam : diskBitmap disk ≡ memory .sam .words = all-rewritten memory k due h m in
-      ap (writes (logEntries disk)) sam ∙ writes-agreeing (logEntries disk) (memory .sam .words) (m .agrees) ∙ sym sam
+  rewritten-durable blocks sam k due h m =
+      let is-sam : diskBitmap disk ≡ sam = all-rewritten blocks sam k due h m in
+      ap (writes (logEntries disk)) is-sam ∙ writes-agreeing (logEntries disk) sam (m .agrees) ∙ sym is-sam
 
   module _ (k : ℕ) (h : logLength disk ≤ k) (c : Closing closing) where
     closed-next : Closed (diskBlocks disk) (wordOne disk) words log (checkpointNext closing disk k)
@@ -194,14 +194,14 @@ module _ (closing : List Store) (disk : List ℕ) (opens : openError disk ≡ no
 
 -- ---- a recovery's last store: word 1 becomes 0
 
-pub cleared-matches : (disk : List ℕ) → openError disk ≡ none → (memory : Memory) (k due : ℕ)
+pub cleared-matches : (disk : List ℕ) → openError disk ≡ none → (blocks : ℕ) (sam : List ℕ) (k due : ℕ)
     → k ≡ logLength disk
-    → RecoveryMatches memory disk k due
-    → sameWords (checkpointNext closingStores disk k) (baseImage memory (checkpointNext closingStores disk k)) ≡ true
+    → RecoveryMatches blocks sam disk k due
+    → sameWords (checkpointNext closingStores disk k) (baseImage blocks sam (checkpointNext closingStores disk k)) ≡ true
 unfolding writes
-cleared-matches disk opens memory k due e m =
-    ap₂ (λ (n : ℕ) (w : List ℕ). sameWords cleared (diskOf n 0 w (drop logAt cleared))) (sym (m .blocks))
-    (sym (all-rewritten closingStores disk opens memory k due (omega (arith, e)) m))
+cleared-matches disk opens blocks sam k due e m =
+    ap₂ (λ (n : ℕ) (w : List ℕ). sameWords cleared (baseImage n w cleared)) (sym (m .blocks-is))
+    (sym (all-rewritten closingStores disk opens blocks sam k due (omega (arith, e)) m))
     ∙ quiet-matches cleared (diskBlocks disk) (diskBitmap disk) (drop logAt disk) (bitmap-length disk opens) is-cleared
   where
     cleared : List ℕ

@@ -8,7 +8,7 @@ use lib.ListN.{length, getD, replicate, length-map}
 use mir.Val.{Val}
 use denote.Laws.{Is}
 use denote.Shadow.{shadow}
-use denote.Array.{each}
+use denote.Array.{Array, each}
 use denote.Struct.Field.{u32-field, array-field}
 use Rattle.bitmap.specs.Sizes.{slotCount, bitmapWords}
 use Rattle.bitmap.specs.Bits.{IsBitmap}
@@ -23,6 +23,11 @@ pub record Shaped (memory : Memory) : Type 0 where
   pub «com» : IsBitmap (memory .com .words)
   pub slots : length (memory .slots) ≡ slotCount
   pub tam : (s : ℕ) → IsBitmap (slotAt memory s .tam .words)
+
+-- and every array of slots
+pub record ShapedSlots (slots : List Slot) : Type 0 where
+  pub eight : length slots ≡ slotCount
+  pub tam : (s : ℕ) → IsBitmap (getD slots s idleSlot .tam .words)
 
 -- zeros are words of 32 bits
 pub zeros-small : (n k : ℕ) → getD {A = ℕ} (replicate n 0) k 0 < 2 ^ 32
@@ -46,6 +51,10 @@ getD-there (slot ∷ slots) (suc s) d e l = getD-there slots s d e (le-of-suc-le
 pub slot-read : (memory : Memory) (d : Slot) (s : ℕ) → Shaped memory → s < slotCount → getD (memory .slots) s d ≡ slotAt memory s
 slot-read memory d s shape l = getD-there (memory .slots) s d idleSlot (omega (arith, shape .slots))
 
+-- the slot that `slots[s]` reads
+pub slots-read : (slots : List Slot) (d : Slot) (s : ℕ) → ShapedSlots slots → s < slotCount → getD slots s d ≡ getD slots s idleSlot
+slots-read slots d s shape l = getD-there slots s d idleSlot (omega (arith, shape .eight))
+
 -- ---- from what owning a value tells
 
 -- of each word of an array
@@ -62,7 +71,7 @@ words-shaped words vs good =
 
 -- of a slot
 pub slot-shaped : (slot : Slot) (vs : List Val) → Is slot-row slot vs → IsBitmap (slot .tam .words)
-slot-shaped slot vs good = words-shaped (slot .tam .words) _ (good .1 .1 .1 .0 .1 .1 .0)
+slot-shaped slot vs good = words-shaped (slot .tam .words) _ (good .1 .1 .0 .1 .1 .0)
 
 -- of each slot of an array
 each-shaped : (slots : List Slot) (us : List Val) → shadow (each (slot-field .row .Denot) (slot-field .row .own) (map (slot-field .into) slots) us) → (s : ℕ)
@@ -71,6 +80,16 @@ each-shaped [] us h s = empty-is
 each-shaped (slot ∷ slots) [] h s = absurd h
 each-shaped (slot ∷ slots) (u ∷ us) h zero = slot-shaped slot (u ∷ []) (h .0)
 each-shaped (slot ∷ slots) (u ∷ us) h (suc s) = each-shaped slots us (h .1) s
+
+-- of an array of slots that is a parameter
+each-slot : (slots : List Slot) (us : List Val) → shadow (each Slot (slot-row .own) slots us) → (s : ℕ) → IsBitmap (getD slots s idleSlot .tam .words)
+each-slot [] us h s = empty-is
+each-slot (slot ∷ slots) [] h s = absurd h
+each-slot (slot ∷ slots) (u ∷ us) h zero = slot-shaped slot (u ∷ []) (h .0)
+each-slot (slot ∷ slots) (u ∷ us) h (suc s) = each-slot slots us (h .1) s
+
+pub slots-shaped : (slots : List Slot) (vs : List Val) → Is (Array slot-row slotCount) slots vs → ShapedSlots slots
+slots-shaped slots vs good = record { eight = good .1 .0 .1; tam = each-slot slots (good .0) (good .1 .1) }
 
 -- of a memory. In a proof `c .good .0` is what is to be known of a first parameter
 pub shaped : (memory : Memory) (vs : List Val) → Is memory-row memory vs → Shaped memory

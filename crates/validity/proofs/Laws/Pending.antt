@@ -1,79 +1,70 @@
 -- Pending work: each test of the code against the definition.
-use Prim.Native.Nat.{ℕ, zero, suc, _+_, _*_, _/_, _≤_, _<_}
-use native.Mathlib.Nat.{le-refl, le-step}
+use Prim.Native.Nat.{ℕ, zero, suc, _+_, _≤_, _<_}
 use native.Mathlib.Omega.{arith}
 use mathlib.Core.Path.{_≡_, refl, sym, ap, _∙_}
-use mathlib.Core.Bool.{Bool, true, false, not, cond, _&&_, false≢true}
-use mathlib.Core.List.{List, [], _∷_}
+use mathlib.Core.Bool.{Bool, true, false, not, _&&_, false≢true}
+use mathlib.Core.List.{List}
 use lib.ListN.{length, List·getD-eq-default}
 use lib.Dec.{leb, ltb, eqb}
-use borrow.Author.Tests.{leb-true, le-leb, eqb-true, eq-eqb}
-use Rattle.bitmap.specs.Sizes.{slotCount}
-use Rattle.bitmap.specs.Bits.{bit, bitmapOf, noBitsFrom, IsBitmap}
-use Rattle.bitmap.specs.Majority.{majority}
-use Rattle.bitmap.proofs.Laws.Majority.{majorityWord}
-use Rattle.bitops.specs.Combine.{zip3}
-use Rattle.bitops.proofs.Laws.Combine.{majority-bitmap}
+use borrow.Author.Tests.{leb-true, le-leb, eqb-true, eq-eqb, ltb-false, not-true}
+use Rattle.bitmap.specs.Sizes.{bitmapWords, slotCount, slotInRange}
+use Rattle.bitmap.specs.Bits.{IsBitmap}
 use Rattle.model.specs.declared.memory.SlotState.{SlotState}
 use Rattle.model.specs.declared.memory.Slot.{Slot}
 use Rattle.model.specs.declared.memory.Pending.{Pending}
 use Rattle.model.specs.declared.memory.Memory.{Memory}
-use Rattle.model.specs.Memory.{idleSlot, slotAt, isActive, isPrecommitted, volumeWords}
-use Rattle.model.specs.Stores.{Store, changes, changesFrom, storesFor}
-use Rattle.model.specs.Commit.{committedSam, entriesOf, changedOf, commitDue}
+use Rattle.model.specs.Memory.{idleSlot, slotAt, isActive, isPrecommitted, volumeWords, withPending}
+use Rattle.model.specs.Stores.{changes, storesFor}
+use Rattle.model.specs.Commit.{changedOf, commitDue}
 use Rattle.model.specs.Valid.{sameWords, allSlots, isQuiet, pendingValid}
+use Rattle.model.proofs.Laws.Writes.{and-both, and-first, and-second}
+use Rattle.model.proofs.Laws.Valid.{ValidParts, allSlots-at}
+use Rattle.model.proofs.Laws.Changes.{changesFrom-length}
+use Rattle.model.proofs.Laws.CommittedTam.{untested-entries-tam}
+use Rattle.model.proofs.Laws.Pending.{recovery-parts, precommitted-active, commit-due as due-is}
 use Rattle.validity.specs.Pending.{changedWords, commitValid}
-use Rattle.validity.proofs.Laws.Slots.{both, and-both, not-true-false, allSlots-at, allSlots-all}
-use Rattle.model.proofs.Laws.Shape.{Shaped}
-use Rattle.model.proofs.Laws.Pending.{commit-due as due-is}
+use Rattle.validity.proofs.Laws.Slots.{not-true-false, allSlots-all}
 
 -- ---- a commit's test
 
 -- no more words change than there are
-changes-most : (k : ℕ) (old new : List ℕ) → length (changesFrom k old new) ≤ length old
-unfolding changesFrom
-changes-most k [] new = le-refl 0
-changes-most k (old ∷ olds) [] = omega arith
-changes-most k (old ∷ olds) (new ∷ news) = go (eqb old new) (changes-most (suc k) olds news)
-  where
-    go : (t : Bool) → length (changesFrom (suc k) olds news) ≤ length olds
-        → length (cond t (changesFrom (suc k) olds news) (record { place = k; value = new } ∷ changesFrom (suc k) olds news)) ≤ suc (length olds)
-    go true h = le-step h
-    go false h = omega arith
+pub changed-most : (old new : List ℕ) → IsBitmap old → length (changes old new) ≤ bitmapWords
+changed-most old new is = omega (arith, changesFrom-length 0 old new, is .size)
 
-pub changed-most : (old new : List ℕ) → IsBitmap old → length (changes old new) ≤ 128
-changed-most old new is = omega (arith, changes-most 0 old new, is .size)
-
-module _ (state : SlotState) (sam «com» tam : List ℕ) (done due words : ℕ) (d : words ≡ changedWords sam «com» tam) where
+module _ (state : SlotState) (sam tam : List ℕ) (done due words : ℕ) (d : words ≡ changedWords sam tam) where
   -- what a commit that fits has
-  commit-parts : commitValid state sam «com» tam done due ≡ true
-      → (isPrecommitted state ≡ true) × (1 ≤ words) × (due ≡ storesFor words)
+  record CommitFits : Type 0 where
+    precommitted : isPrecommitted state ≡ true
+    some-changed : 1 ≤ words
+    due-is : due ≡ storesFor words
+
+  commit-fits : commitValid state sam tam done due ≡ true → CommitFits
   unfolding commitValid
-  commit-parts h =
-      let r = both _ _ (both _ _ h .0) in
-      let q = both _ _ (r .0) in
-      (q .0, rw d (leb-true 1 (changedWords sam «com» tam) (q .1)), rw d (eqb-true due (storesFor (changedWords sam «com» tam)) (r .1)))
+  commit-fits h =
+      let changed : ℕ = changedWords sam tam in
+      let e2 = and-first _ (ltb done due) h in
+      let e1 = and-first _ (eqb due (storesFor changed)) e2 in
+      record {
+        precommitted = and-first (isPrecommitted state) (leb 1 changed) e1;
+        some-changed = rw d (leb-true 1 changed (and-second (isPrecommitted state) _ e1));
+        due-is = rw d (eqb-true due (storesFor changed) (and-second (isPrecommitted state && leb 1 changed) _ e2));
+      }
 
-  pub commit-open : isPrecommitted state ≡ false → false ≡ commitValid state sam «com» tam done due
-  commit-open e = not-true-false _ (λ h. false≢true (sym e ∙ commit-parts h .0))
+  pub commit-open : isPrecommitted state ≡ false → false ≡ commitValid state sam tam done due
+  commit-open e = not-true-false _ (λ h. false≢true (sym e ∙ commit-fits h .precommitted))
 
-  pub commit-none : words < 1 → false ≡ commitValid state sam «com» tam done due
-  commit-none l = not-true-false _ (λ h. omega (arith, commit-parts h .1))
+  pub commit-none : words < 1 → false ≡ commitValid state sam tam done due
+  commit-none l = not-true-false _ (λ h. omega (arith, commit-fits h .some-changed))
 
-  pub commit-due : (due ≡ storesFor words → ⊥) → false ≡ commitValid state sam «com» tam done due
-  commit-due n = not-true-false _ (λ h. n (commit-parts h .2))
+  pub commit-due : (due ≡ storesFor words → ⊥) → false ≡ commitValid state sam tam done due
+  commit-due n = not-true-false _ (λ h. n (commit-fits h .due-is))
 
   -- what is left to test
-  pub commit-rest : isPrecommitted state ≡ true → 1 ≤ words → due ≡ storesFor words → ltb done due ≡ commitValid state sam «com» tam done due
+  pub commit-rest : isPrecommitted state ≡ true → 1 ≤ words → due ≡ storesFor words → ltb done due ≡ commitValid state sam tam done due
   unfolding commitValid
   commit-rest p l e =
       sym (ap (λ (t : Bool). t && ltb done due)
-      (and-both _ _ (and-both _ _ p (rw d at (le-leb 1 words l))) (rw d at (eq-eqb due (storesFor words) e))))
-
--- the same slot, under another name
-pub commit-slot : {slot other : Slot} (sam «com» : List ℕ) (done due : ℕ) → slot ≡ other
-    → commitValid (slot .state) sam «com» (slot .tam .words) done due ≡ commitValid (other .state) sam «com» (other .tam .words) done due
-commit-slot sam «com» done due e = ap (λ (slot : Slot). commitValid (slot .state) sam «com» (slot .tam .words) done due) e
+      (and-both (and-both p (rw d at (le-leb 1 words l))) (rw d at (eq-eqb due (storesFor words) e))))
 
 -- ---- a commit in its memory
 
@@ -84,69 +75,66 @@ same-due true zero due commit e = refl
 same-due false zero due commit e = refl
 same-due precommitted (suc d) due commit e = ap (λ (n : ℕ). precommitted && leb 1 (suc d) && eqb due n) (sym (e (omega arith)))
 
-module _ (memory : Memory) (s : ℕ) (shape : Shaped memory) (most : memory .blocks ≤ 4096)
-    (samNone : noBitsFrom (memory .blocks) (memory .sam .words) ≡ true)
-    (comNone : noBitsFrom (memory .blocks) (memory .com .words) ≡ true)
-    (tamNone : noBitsFrom (memory .blocks) (slotAt memory s .tam .words) ≡ true) where
-  -- the words that a commit of the slot leaves
-  pub committed-words : committedSam memory s .words ≡ zip3 majorityWord (memory .sam .words) (memory .com .words) (slotAt memory s .tam .words)
-  unfolding committedSam
-  committed-words =
-      sym (majority-bitmap (memory .blocks) most (memory .sam .words) (memory .com .words) (slotAt memory s .tam .words)
-      (shape .sam) (shape .com) (shape .tam s) samNone comNone tamNone)
+-- once the bitmaps are known to be valid, what a commit changes is seen by the slot's bitmap alone
+pub commit-valid : (memory : Memory) (s done due : ℕ) → ValidParts (withPending memory Pending.Nothing) → IsBitmap (slotAt memory s .tam .words)
+    → commitValid (slotAt memory s .state) (memory .sam .words) (slotAt memory s .tam .words) done due
+    ≡ pendingValid memory (Pending.Commit s done due)
+unfolding commitValid pendingValid changedWords changedOf
+commit-valid memory s done due parts is = go (isPrecommitted slotState) refl
+  where
+    slotState : SlotState
+    slotState = slotAt memory s .state
 
-  -- d
-  pub changed-words : changedOf memory s ≡ changedWords (memory .sam .words) (memory .com .words) (slotAt memory s .tam .words)
-  unfolding changedOf entriesOf changedWords
-  changed-words = ap (λ (words : List ℕ). length (changes (memory .sam .words) words)) committed-words
+    d : ℕ
+    d = changedWords (memory .sam .words) (slotAt memory s .tam .words)
 
-  pub commit-valid : (done due : ℕ)
-      → commitValid (slotAt memory s .state) (memory .sam .words) (memory .com .words) (slotAt memory s .tam .words) done due
-      ≡ pendingValid memory (Pending.Commit s done due)
-  unfolding commitValid pendingValid
-  commit-valid done due =
-      ap (λ (d : ℕ). isPrecommitted (slotAt memory s .state) && leb 1 d && eqb due (storesFor d) && ltb done due) (sym changed-words)
-      ∙ ap (λ (t : Bool). t && ltb done due)
-      (same-due (isPrecommitted (slotAt memory s .state)) (changedOf memory s) due (commitDue memory s) (due-is memory s))
+    go : (t : Bool) → isPrecommitted (slotAt memory s .state) ≡ t
+        → commitValid (slotAt memory s .state) (memory .sam .words) (slotAt memory s .tam .words) done due
+        ≡ pendingValid memory (Pending.Commit s done due)
+    go false e =
+        ap (λ (t : Bool). t && leb 1 d && eqb due (storesFor d) && ltb done due) e
+        ∙ sym (ap (λ (t : Bool). t && leb 1 (changedOf memory s) && eqb due (commitDue memory s) && ltb done due) e)
+    go true e =
+        ap (λ (n : ℕ). isPrecommitted (slotAt memory s .state) && leb 1 n && eqb due (storesFor n) && ltb done due)
+        (sym (ap length (untested-entries-tam memory s parts is (precommitted-active (slotAt memory s .state) e))))
+        ∙ ap (λ (t : Bool). t && ltb done due)
+        (same-due (isPrecommitted (slotAt memory s .state)) (changedOf memory s) due (commitDue memory s) (due-is memory s))
 
 -- a slot number above 7 has no precommitted slot
-pub commit-past : (memory : Memory) (s done due : ℕ) → Shaped memory → slotCount ≤ s → false ≡ pendingValid memory (Pending.Commit s done due)
-unfolding pendingValid
-commit-past memory s done due shape l =
+pub commit-past : (memory : Memory) (s done due : ℕ) → length (memory .slots) ≡ slotCount → slotInRange s ≡ false
+    → false ≡ pendingValid memory (Pending.Commit s done due)
+unfolding pendingValid slotInRange
+commit-past memory s done due eight e =
     sym (ap (λ (t : Bool). t && leb 1 (changedOf memory s) && eqb due (commitDue memory s) && ltb done due) idle)
   where
     idle : isPrecommitted (slotAt memory s .state) ≡ false
     idle =
-        let h : length (memory .slots) ≤ s = omega (arith, shape .slots) in
+        let h : length (memory .slots) ≤ s = omega (arith, ltb-false s slotCount e) in
         ap (λ (slot : Slot). isPrecommitted (slot .state)) (List·getD-eq-default (memory .slots) idleSlot h)
 
 -- ---- a recovery in its memory
 
 module _ (memory : Memory) (done due : ℕ) where
-  -- what a recovery that fits has
-  recovery-parts : pendingValid memory (Pending.Recovery done due) ≡ true
-      → (allSlots (λ slot. not (isActive (slot .state))) (memory .slots) ≡ true) × (sameWords (memory .com .words) (memory .sam .words) ≡ true)
-      × (2 ≤ due) × (due ≤ volumeWords memory + 1)
-  unfolding pendingValid isQuiet
-  recovery-parts h =
-      let r = both _ _ (both _ _ h .0) in
-      let q = both _ _ (r .0) in
-      let quiet = both _ _ (q .0) in
-      (quiet .0, quiet .1, leb-true 2 due (q .1), leb-true due (volumeWords memory + 1) (r .1))
+  -- all slots are idle
+  quiet-idle : isQuiet memory ≡ true → (s : ℕ) → isActive (slotAt memory s .state) ≡ false
+  unfolding isQuiet
+  quiet-idle h s =
+      not-true (isActive (slotAt memory s .state)) (allSlots-at (λ slot. not (isActive (slot .state))) (memory .slots) s refl (and-first _ (sameWords (memory .com .words) (memory .sam .words)) h))
 
-  pub recovery-active : (s : ℕ) → s < length (memory .slots) → isActive (slotAt memory s .state) ≡ true
-      → false ≡ pendingValid memory (Pending.Recovery done due)
-  recovery-active s l a =
-      not-true-false _ (λ h. false≢true (sym (ap not a) ∙ allSlots-at (λ slot. not (isActive (slot .state))) (memory .slots) s (recovery-parts h .0) l))
+  pub recovery-active : (s : ℕ) → isActive (slotAt memory s .state) ≡ true → false ≡ pendingValid memory (Pending.Recovery done due)
+  recovery-active s a = not-true-false _ (λ h. false≢true (sym (quiet-idle (recovery-parts memory done due h .quiet) s) ∙ a))
 
   pub recovery-differs : sameWords (memory .com .words) (memory .sam .words) ≡ false → false ≡ pendingValid memory (Pending.Recovery done due)
-  recovery-differs e = not-true-false _ (λ h. false≢true (sym e ∙ recovery-parts h .1))
+  unfolding isQuiet
+  recovery-differs e =
+      not-true-false _
+      (λ h. false≢true (sym e ∙ and-second (allSlots (λ slot. not (isActive (slot .state))) (memory .slots)) _ (recovery-parts memory done due h .quiet)))
 
   pub recovery-few : due < 2 → false ≡ pendingValid memory (Pending.Recovery done due)
-  recovery-few l = not-true-false _ (λ h. omega (arith, recovery-parts h .2))
+  recovery-few l = not-true-false _ (λ h. omega (arith, recovery-parts memory done due h .some-logged))
 
   pub recovery-many : volumeWords memory + 1 < due → false ≡ pendingValid memory (Pending.Recovery done due)
-  recovery-many l = not-true-false _ (λ h. omega (arith, recovery-parts h .3))
+  recovery-many l = not-true-false _ (λ h. omega (arith, recovery-parts memory done due h .few-logged))
 
   -- what is left to test
   pub recovery-rest : ((s : ℕ) → s < length (memory .slots) → isActive (slotAt memory s .state) ≡ false)
@@ -155,8 +143,8 @@ module _ (memory : Memory) (done due : ℕ) where
   unfolding pendingValid isQuiet
   recovery-rest idle same few many =
       sym (ap (λ (t : Bool). t && ltb done due)
-      (and-both _ _
-      (and-both _ _
-      (and-both _ _ (allSlots-all (λ slot. not (isActive (slot .state))) (memory .slots) (λ s l. ap not (idle s l))) same)
+      (and-both
+      (and-both
+      (and-both (allSlots-all (λ slot. not (isActive (slot .state))) (memory .slots) (λ s l. ap not (idle s l))) same)
       (le-leb 2 due few))
       (le-leb due (volumeWords memory + 1) many)))

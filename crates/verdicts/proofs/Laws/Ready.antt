@@ -1,83 +1,103 @@
--- The causes that the six transaction calls test first: each in its turn, and what passing them tells.
-use Prim.Native.Nat.{ℕ, _≤_, _<_}
-use mathlib.Core.Path.{_≡_, sym, ap, _∙_}
+-- The causes told by parts are those of the memory.
+use Prim.Native.Nat.{ℕ, _<_}
+use mathlib.Core.Path.{_≡_, refl, ap, _∙_}
 use mathlib.Core.Bool.{Bool, true, false, not}
 use mathlib.Core.List.{List, [], _∷_, _++_}
-use borrow.Author.Tests.{le-leb, lt-leb}
-use Rattle.bitmap.specs.Sizes.{slotCount}
+use lib.ListN.{getD, take}
+use borrow.Author.Tests.{lt-ltb, ltb-true}
+use Rattle.bitmap.specs.Bits.{IsBitmap}
+use Rattle.bitmap.specs.Sizes.{slotCount, slotInRange, slotIndex, IsSlot}
+use Rattle.model.specs.declared.memory.SlotState.{SlotState}
+use Rattle.model.specs.declared.memory.Slot.{Slot}
 use Rattle.model.specs.declared.memory.Memory.{Memory}
-use Rattle.model.specs.declared.error.Error.the-variants.{MemoryInvalid, WorkPending, SlotRange, SlotIdle, SlotPrecommitted}
-use Rattle.model.specs.Errors.{Cause, first, _⇒_}
-use Rattle.model.specs.Memory.{slotAt, isActive, isPrecommitted}
+use Rattle.model.specs.declared.error.Error.{Error}
+use Rattle.model.specs.declared.error.Error.the-variants.{SlotRange, SlotBusy, SlotIdle, SlotPrecommitted, SlotNotPrecommitted}
+use Rattle.model.specs.Errors.{Cause, first, firstOr, _⇒_}
+use Rattle.model.specs.Memory.{slotAt, idleSlot, isActive, isPrecommitted}
+use Rattle.model.specs.Pending.{ownerOf}
 use Rattle.model.specs.Valid.{valid}
-use Rattle.model.specs.Causes.{memoryInvalid, isNothing, nothingPending, workPending, slotOutOfRange, slotActive, slotInactive, slotPrecommitted}
-use Rattle.model.proofs.Laws.First.{cause-holds, cause-passed, none-holds, no-cause}
-use Rattle.model.proofs.Laws.Accepted.{Ready, ready-of}
+use Rattle.model.specs.Causes.{memoryInvalid, nothingPending, workPending, slotOutOfRange, slotActive, slotInactive, slotPrecommitted, slotNotPrecommitted}
+use Rattle.model.specs.Calls.Start.{startError}
+use Rattle.model.specs.Calls.Precommit.{precommitError}
+use Rattle.model.specs.Calls.Rollback.{rollbackError}
+use Rattle.model.specs.Calls.Committing.{commitError}
+use Rattle.model.proofs.Laws.Shape.{Shaped, slot-read}
 use Rattle.verdicts.specs.declared.verdict.Verdict.{Verdict}
 use Rattle.verdicts.specs.Verdicts.{verdict}
-use Rattle.verdicts.specs.Ready.{readyCauses, readyError, activeCauses, activeError, openSlotError}
-use Rattle.verdicts.proofs.Laws.Verdicts.{accepted-none, accepted-then}
+use Rattle.verdicts.specs.Ready.{readyCauses, idleCauses, activeCauses, openCauses, precommittedCauses}
 
-module _ (memory : Memory) (s : ℕ) where
-  -- ---- 1, 8 and 10
+-- ---- the slot that a call looks at
 
-  pub invalid-refused : valid memory ≡ false → Verdict.Refused MemoryInvalid ≡ verdict (readyError memory s)
-  unfolding memoryInvalid
-  invalid-refused e = ap verdict (sym (cause-holds (memoryInvalid memory) MemoryInvalid _ (ap not e)))
+-- where there is a slot of this number, it is this one
+pub index-is : {i : ℕ} (s : ℕ) → IsSlot (slotIndex s) i → s < slotCount → i ≡ s
+unfolding slotInRange slotIndex
+index-is s index below = index .is ∙ rw (lt-ltb s slotCount below)
 
-  past-invalid : valid memory ≡ true → readyError memory s ≡ first (workPending memory ⇒ WorkPending ∷ slotOutOfRange s ⇒ SlotRange ∷ [])
-  unfolding memoryInvalid
-  past-invalid e = cause-passed (memoryInvalid memory) MemoryInvalid _ (ap not e)
+pub own-slot : {i : ℕ} (memory : Memory) (d : Slot) (s : ℕ) → Shaped memory → IsSlot (slotIndex s) i → s < slotCount → getD (memory .slots) i d ≡ slotAt memory s
+own-slot memory d s shape index below = rw (index-is s index below) (slot-read memory d s shape below)
 
-  pub pending-refused : valid memory ≡ true → isNothing (memory .pending) ≡ false → Verdict.Refused WorkPending ≡ verdict (readyError memory s)
-  unfolding workPending nothingPending
-  pending-refused v e = ap verdict (sym (past-invalid v ∙ cause-holds (workPending memory) WorkPending _ (ap not e)))
+-- and its bitmap is one, whichever slot it is
+pub own-tam : {i wanted : ℕ} (memory : Memory) (d : Slot) → Shaped memory → IsSlot wanted i → IsBitmap (getD (memory .slots) i d .tam .words)
+own-tam memory d shape index = rw (slot-read memory d _ shape (index .below)) (shape .tam _)
 
-  past-pending : valid memory ≡ true → isNothing (memory .pending) ≡ true → readyError memory s ≡ first (slotOutOfRange s ⇒ SlotRange ∷ [])
-  unfolding workPending nothingPending
-  past-pending v e = past-invalid v ∙ cause-passed (workPending memory) WorkPending _ (ap not e)
+own-state : {i : ℕ} (memory : Memory) (d : Slot) (s : ℕ) → Shaped memory → IsSlot (slotIndex s) i → slotInRange s ≡ true
+    → getD (memory .slots) i d .state ≡ slotAt memory s .state
+unfolding slotInRange
+own-state memory d s shape index h = ap (λ (slot : Slot). slot .state) (own-slot memory d s shape index (ltb-true s slotCount h))
 
-  pub range-refused : valid memory ≡ true → isNothing (memory .pending) ≡ true → slotCount ≤ s → Verdict.Refused SlotRange ≡ verdict (readyError memory s)
-  unfolding slotOutOfRange
-  range-refused v n h = ap verdict (sym (past-pending v n ∙ cause-holds (slotOutOfRange s) SlotRange [] (le-leb slotCount s h)))
+-- the slot of a pending commit, as `valid` asks for it
+pub owner-read : {i : ℕ} (memory : Memory) (d : Slot) → Shaped memory → IsSlot (ownerOf (memory .pending)) i
+    → getD (memory .slots) i d ≡ getD (memory .slots) (ownerOf (memory .pending)) idleSlot
+owner-read memory d shape index = slot-read memory d _ shape (index .below) ∙ ap (slotAt memory) (index .is)
 
-  pub ready-accepted : valid memory ≡ true → isNothing (memory .pending) ≡ true → s < slotCount → Verdict.Accepted ≡ verdict (readyError memory s)
-  unfolding slotOutOfRange
-  ready-accepted v n h = ap verdict (sym (past-pending v n ∙ cause-passed (slotOutOfRange s) SlotRange [] (lt-leb slotCount s h) ∙ no-cause))
+-- ---- the causes
 
-  -- ---- 12
+-- past a cause that holds, none decides
+unreached : (earlier : List Cause) (error : Error) (xs ys : List Cause) → first (earlier ++ (true ⇒ error ∷ xs)) ≡ first (earlier ++ (true ⇒ error ∷ ys))
+unfolding first firstOr
+unreached [] error xs ys = refl
+unreached (cause ∷ causes) error xs ys = ap (firstOr (cause .holds) (cause .error)) (unreached causes error xs ys)
 
-  pub idle-refused : verdict (readyError memory s) ≡ Verdict.Accepted → isActive (slotAt memory s .state) ≡ false → Verdict.Refused SlotIdle ≡ verdict (activeError memory s)
-  unfolding slotInactive slotActive
-  idle-refused r e = ap verdict (sym (accepted-then (readyCauses memory s) _ r ∙ cause-holds (slotInactive memory s) SlotIdle [] (ap not e)))
+module _ (memory : Memory) (s : ℕ) (state : SlotState) (read : slotInRange s ≡ true → state ≡ slotAt memory s .state) where
+  -- causes of the slot's state, after 1, 8 and 10
+  slot-causes : (causes : SlotState → List Cause)
+      → first (readyCauses (valid memory) (memory .pending) s ++ causes state) ≡ first (readyCauses (valid memory) (memory .pending) s ++ causes (slotAt memory s .state))
+  slot-causes causes = go (slotInRange s) refl
+    where
+      ready : List Cause
+      ready = readyCauses (valid memory) (memory .pending) s
 
-  pub active-accepted : verdict (readyError memory s) ≡ Verdict.Accepted → isActive (slotAt memory s .state) ≡ true → Verdict.Accepted ≡ verdict (activeError memory s)
-  unfolding slotInactive slotActive
-  active-accepted r e = ap verdict (sym (accepted-then (readyCauses memory s) _ r ∙ cause-passed (slotInactive memory s) SlotIdle [] (ap not e) ∙ no-cause))
+      go : (t : Bool) → slotInRange s ≡ t → first (ready ++ causes state) ≡ first (ready ++ causes (slotAt memory s .state))
+      go true e = ap (λ (x : SlotState). first (ready ++ causes x)) (read e)
+      go false e = rw e (unreached (take 2 ready) SlotRange _ _)
 
-  -- ---- 13
+  idle-error : first (idleCauses (valid memory) (memory .pending) s state) ≡ startError memory s
+  unfolding startError memoryInvalid workPending nothingPending slotOutOfRange slotActive
+  idle-error = slot-causes (λ x. isActive x ⇒ SlotBusy ∷ [])
 
-  pub precommitted-refused : verdict (activeError memory s) ≡ Verdict.Accepted → isPrecommitted (slotAt memory s .state) ≡ true
-      → Verdict.Refused SlotPrecommitted ≡ verdict (openSlotError memory s)
-  unfolding slotPrecommitted
-  precommitted-refused r e = ap verdict (sym (accepted-then (activeCauses memory s) _ r ∙ cause-holds (slotPrecommitted memory s) SlotPrecommitted [] e))
+  active-error : first (activeCauses (valid memory) (memory .pending) s state) ≡ rollbackError memory s
+  unfolding rollbackError memoryInvalid workPending nothingPending slotOutOfRange slotInactive slotActive
+  active-error = slot-causes (λ x. not (isActive x) ⇒ SlotIdle ∷ [])
 
-  pub open-accepted : verdict (activeError memory s) ≡ Verdict.Accepted → isPrecommitted (slotAt memory s .state) ≡ false → Verdict.Accepted ≡ verdict (openSlotError memory s)
-  unfolding slotPrecommitted
-  open-accepted r e = ap verdict (sym (accepted-then (activeCauses memory s) _ r ∙ cause-passed (slotPrecommitted memory s) SlotPrecommitted [] e ∙ no-cause))
+  open-error : first (openCauses (valid memory) (memory .pending) s state) ≡ precommitError memory s
+  unfolding precommitError memoryInvalid workPending nothingPending slotOutOfRange slotInactive slotActive slotPrecommitted
+  open-error = slot-causes (λ x. not (isActive x) ⇒ SlotIdle ∷ isPrecommitted x ⇒ SlotPrecommitted ∷ [])
 
--- ---- what acceptance tells
+  precommitted-error : first (precommittedCauses (valid memory) (memory .pending) s state) ≡ commitError memory s
+  unfolding commitError memoryInvalid workPending nothingPending slotOutOfRange slotInactive slotActive slotNotPrecommitted slotPrecommitted
+  precommitted-error = slot-causes (λ x. not (isActive x) ⇒ SlotIdle ∷ not (isPrecommitted x) ⇒ SlotNotPrecommitted ∷ [])
 
--- whatever is accepted after the causes of all six
-pub ready-then : (memory : Memory) (s : ℕ) (more : List Cause) → verdict (first (readyCauses memory s ++ more)) ≡ Verdict.Accepted → Ready memory s
-ready-then memory s more e =
-    let h1 = none-holds (memoryInvalid memory) MemoryInvalid _ (accepted-none _ e) in
-    let h8 = none-holds (workPending memory) WorkPending _ (h1 .1) in
-    let h10 = none-holds (slotOutOfRange s) SlotRange more (h8 .1) in
-    ready-of memory s (h1 .0) (h8 .0) (h10 .0)
+-- ---- a call's verdict, by what the code has tested and read
 
-pub active-ready : (memory : Memory) (s : ℕ) → verdict (activeError memory s) ≡ Verdict.Accepted → Ready memory s
-active-ready memory s e = ready-then memory s _ e
+module _ {i : ℕ} {v : Verdict} {sound : Bool} (memory : Memory) (d : Slot) (s : ℕ) (shape : Shaped memory) (index : IsSlot (slotIndex s) i) (tested : sound ≡ valid memory) where
+  pub idle-verdict : v ≡ verdict (first (idleCauses sound (memory .pending) s (getD (memory .slots) i d .state))) → v ≡ verdict (startError memory s)
+  idle-verdict e = e ∙ rw tested (ap verdict (idle-error memory s _ (own-state memory d s shape index)))
 
-pub open-ready : (memory : Memory) (s : ℕ) → verdict (openSlotError memory s) ≡ Verdict.Accepted → Ready memory s
-open-ready memory s e = ready-then memory s _ e
+  pub active-verdict : v ≡ verdict (first (activeCauses sound (memory .pending) s (getD (memory .slots) i d .state))) → v ≡ verdict (rollbackError memory s)
+  active-verdict e = e ∙ rw tested (ap verdict (active-error memory s _ (own-state memory d s shape index)))
+
+  pub open-verdict : v ≡ verdict (first (openCauses sound (memory .pending) s (getD (memory .slots) i d .state))) → v ≡ verdict (precommitError memory s)
+  open-verdict e = e ∙ rw tested (ap verdict (open-error memory s _ (own-state memory d s shape index)))
+
+  pub precommitted-verdict : v ≡ verdict (first (precommittedCauses sound (memory .pending) s (getD (memory .slots) i d .state))) → v ≡ verdict (commitError memory s)
+  precommitted-verdict e = e ∙ rw tested (ap verdict (precommitted-error memory s _ (own-state memory d s shape index)))

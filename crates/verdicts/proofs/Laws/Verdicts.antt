@@ -1,46 +1,98 @@
 -- Verdicts on a list of causes, and what a call answers and leaves by the verdict on its list.
-use mathlib.Core.Path.{_≡_, refl, sym, ap}
+use Prim.Native.Nat.{ℕ}
+use mathlib.Core.Path.{_≡_, refl, sym, ap, _∙_}
+use mathlib.Core.Bool.{Bool, true, false, false≢true}
 use mathlib.Core.Option.{Option, none, some}
-use mathlib.Core.List.{List, _++_}
-use Rattle.model.specs.declared.memory.Memory.{Memory}
+use mathlib.Core.List.{List, [], _∷_, _++_}
 use Rattle.model.specs.declared.error.Error.{Error}
-use Rattle.model.specs.declared.answer.Answer.{Answer}
-use Rattle.model.specs.Errors.{Cause, first, unlessRefused}
-use Rattle.model.specs.Answers.{done}
-use Rattle.model.proofs.Laws.First.{some-append, none-append}
+use Rattle.model.specs.Answers.{due}
+use Rattle.model.specs.Errors.{Cause, first, firstOr, unlessRefused, _⇒_}
 use Rattle.verdicts.specs.declared.verdict.Verdict.{Verdict}
-use Rattle.verdicts.specs.Verdicts.{verdict}
+use Rattle.verdicts.specs.Verdicts.{verdict, errorOf, isAccepted, unlessHolds, thenCauses}
 
--- ---- verdicts
+-- ---- causes in turn
+
+-- before the first cause
+pub none-tested : Verdict.Accepted ≡ verdict (first [])
+unfolding first
+none-tested = refl
+
+-- a verdict on a list, and one cause more
+pub one-more : (causes : List Cause) (holds : Bool) (error : Error)
+    → unlessHolds (verdict (first causes)) holds error ≡ verdict (first (causes ++ (holds ⇒ error ∷ [])))
+unfolding first firstOr
+one-more [] true error = refl
+one-more [] false error = refl
+one-more (cause ∷ causes) holds error = go (cause .holds) (one-more causes holds error)
+  where
+    go : (t : Bool) → unlessHolds (verdict (first causes)) holds error ≡ verdict (first (causes ++ (holds ⇒ error ∷ [])))
+        → unlessHolds (verdict (firstOr t (cause .error) (first causes))) holds error
+        ≡ verdict (firstOr t (cause .error) (first (causes ++ (holds ⇒ error ∷ []))))
+    go true ih = refl
+    go false ih = ih
+
+-- the same, of a verdict and a test that are known
+pub then-tested : {v r : Verdict} {t : Bool} (causes : List Cause) (holds : Bool) (error : Error)
+    → r ≡ unlessHolds v t error → v ≡ verdict (first causes) → t ≡ holds → r ≡ verdict (first (causes ++ (holds ⇒ error ∷ [])))
+then-tested causes holds error e f g = rw (e, f, g) (one-more causes holds error)
+
+-- a list that goes on
+pub then-causes : (xs ys : List Cause) → thenCauses (verdict (first xs)) ys ≡ verdict (first (xs ++ ys))
+unfolding first firstOr
+then-causes [] ys = refl
+then-causes (x ∷ xs) ys = go (x .holds) (then-causes xs ys)
+  where
+    go : (t : Bool) → thenCauses (verdict (first xs)) ys ≡ verdict (first (xs ++ ys))
+        → thenCauses (verdict (firstOr t (x .error) (first xs))) ys ≡ verdict (firstOr t (x .error) (first (xs ++ ys)))
+    go true ih = refl
+    go false ih = ih
+
+-- what is refused stays so
+pub then-refused : {t : Bool} (v : Verdict) (causes : List Cause) → t ≡ isAccepted v → t ≡ false → v ≡ thenCauses v causes
+then-refused Verdict.Accepted causes f g = absurd (false≢true (sym g ∙ f))
+then-refused (Verdict.Refused error) causes f g = refl
+
+-- what isn't goes by the rest
+pub then-accepted : {t : Bool} {r : Verdict} (v : Verdict) (causes : List Cause) → t ≡ isAccepted v → t ≡ true → r ≡ verdict (first causes) → r ≡ thenCauses v causes
+then-accepted Verdict.Accepted causes f g e = e
+then-accepted (Verdict.Refused error) causes f g e = absurd (false≢true (sym f ∙ g))
+
+-- ---- what a call answers and leaves
+
+-- the error that a verdict stands for
+pub error-of : {v : Verdict} (found : Option Error) → v ≡ verdict found → errorOf v ≡ found
+error-of none e = ap errorOf e
+error-of (some error) e = ap errorOf e
 
 -- an accepted call has no error
-pub accepted-none : (error : Option Error) → verdict error ≡ Verdict.Accepted → error ≡ none
-accepted-none none e = refl
-accepted-none (some error) e = cc
+pub accepted-none : {v : Verdict} {t : Bool} (found : Option Error) → v ≡ verdict found → t ≡ isAccepted v → t ≡ true → found ≡ none
+accepted-none none e f g = refl
+accepted-none (some error) e f g = cc
 
--- a refused one has this
-pub refused-some : (found : Option Error) (error : Error) → verdict found ≡ Verdict.Refused error → found ≡ some error
-refused-some none error e = cc
-refused-some (some found) error e = cc
+-- the same where the verdict itself is known
+pub known-accepted : (found : Option Error) → Verdict.Accepted ≡ verdict found → found ≡ none
+known-accepted none e = refl
+known-accepted (some error) e = cc
 
--- what refuses the first causes refuses the list that goes on
-pub refused-then : (xs ys : List Cause) (error : Error) → verdict (first xs) ≡ Verdict.Refused error → Verdict.Refused error ≡ verdict (first (xs ++ ys))
-refused-then xs ys error e = ap verdict (sym (some-append xs ys error (refused-some (first xs) error e)))
+pub known-refused : (found : Option Error) (error : Error) → Verdict.Refused error ≡ verdict found → found ≡ some error
+known-refused none error e = cc
+known-refused (some found) error e = cc
 
--- past them, the rest decides
-pub accepted-then : (xs ys : List Cause) → verdict (first xs) ≡ Verdict.Accepted → first (xs ++ ys) ≡ first ys
-accepted-then xs ys e = none-append xs ys (accepted-none (first xs) e)
+-- it leaves the new value
+pub accepted-leaves {ℓ} : {A : Type ℓ} {v : Verdict} {t : Bool} (found : Option Error) (new old : A)
+    → v ≡ verdict found → t ≡ isAccepted v → t ≡ true → new ≡ unlessRefused found new old
+unfolding unlessRefused
+accepted-leaves found new old e f g = rw (accepted-none found e f g)
 
--- ---- calls
+-- a refused one leaves the old
+pub refused-leaves {ℓ} : {A : Type ℓ} {v : Verdict} {t : Bool} (found : Option Error) (new old : A)
+    → v ≡ verdict found → t ≡ isAccepted v → t ≡ false → old ≡ unlessRefused found new old
+unfolding unlessRefused
+refused-leaves none new old e f g = absurd (false≢true (sym g ∙ f ∙ ap isAccepted e))
+refused-leaves (some error) new old e f g = refl
 
--- a call that its error refuses answers that, and leaves the old memory
-pub refused : (found : Option Error) (new old : Memory) (error : Error) → verdict found ≡ Verdict.Refused error
-    → (Answer.Refused error ≡ done found) × (old ≡ unlessRefused found new old)
-unfolding done unlessRefused
-refused found new old error e = rw (refused-some found error e) (refl, refl)
-
--- one that is accepted is done, and leaves the new one
-pub accepted : (found : Option Error) (new old : Memory) → verdict found ≡ Verdict.Accepted
-    → (Answer.Done ≡ done found) × (new ≡ unlessRefused found new old)
-unfolding done unlessRefused
-accepted found new old e = rw (accepted-none found e) (refl, refl)
+-- nor does it matter how many stores it would leave due
+pub refused-stores : {v : Verdict} {t : Bool} (found : Option Error) (n other : ℕ) → v ≡ verdict found → t ≡ isAccepted v → t ≡ false → due found n ≡ due found other
+unfolding due
+refused-stores none n other e f g = absurd (false≢true (sym g ∙ f ∙ ap isAccepted e))
+refused-stores (some error) n other e f g = refl

@@ -1,23 +1,23 @@
 -- `available::count::count_words` meets its contract, by the number of its words: each half has fewer.
-use Prim.Native.Nat.{ℕ, _+_, _*_, _-_, _<_}
+use Prim.Native.Nat.{ℕ, _+_, _-_, _<_}
 use native.Mathlib.Omega.{arith}
 use mathlib.Core.Path.{_≡_}
 use borrow.Author.Needs.{needs}
 use borrow.Fn.Kinds.{In}
 use borrow.Fn.PlainCycle.{Measures, is, falls, and}
-use Rattle.bitmap.specs.Blocks.{isAvailable}
-use Rattle.bitmap.proofs.Laws.Blocks.{from-length}
+use Rattle.available.proofs.Laws.Whole.{count-join, count-le}
 use Rattle.available.proofs.count.count_words.Reads as count-words
 use Rattle.available.proofs.count.count_words.Kinds as count-words-kinds
 use Rattle.available.proofs.count.+count_words.Lts-count_words as count-words-lts
-use Rattle.available.proofs.count.count_word.Reads as count-word-reads
+use Rattle.available.proofs.count.count_one.Reads as count-one-reads
+use Rattle.available.proofs.count.count_two.Reads as count-two-reads
+use Rattle.available.proofs.count.count_four.Reads as count-four-reads
 use Rattle.available.proofs.count.+count_words.{statement}
 use Rattle.available.proofs.count.+count_words.Tie.{close}
 
 abbrev μ-count-words : Measures 2 count-words-kinds.ps ℕ
 μ-count-words κs a =
-    let numbers = a .1 .1 in
-    let bounds = numbers .1 in
+    let bounds = a .1 .1 in
     bounds .1 .0 - bounds .0
 
 abbrev count-words-at : ℕ → In 2 count-words-kinds.ps
@@ -30,62 +30,75 @@ count-words-below t =
 
 -- what is known of the functions that it calls
 abbrev claims : ℕ → count-words-lts.Claims
-claims t = (count-word-reads.Asked, count-word-reads.Learnt, count-words-below t, count-words.Post)
+claims t = (
+  count-one-reads.Asked,
+  count-one-reads.Learnt,
+  count-two-reads.Asked,
+  count-two-reads.Learnt,
+  count-four-reads.Asked,
+  count-four-reads.Learnt,
+  count-words-below t,
+  count-words.Post,
+)
 
-count-words-sub-if1 : (t : ℕ) → count-words-lts.Need-sub-if1 (claims t) (count-words-at t) count-words.Post
-count-words-sub-if1 t c = search needs
+sub-length : (t : ℕ) → count-words-lts.Need-sub-length (claims t) (count-words-at t) count-words.Post
+sub-length t c = search needs
 
-count-words-count-word-requires : (t : ℕ) → count-words-lts.Need-count-word-requires (claims t) (count-words-at t) count-words.Post
-count-words-count-word-requires t c κs =
-    let p = c .before .pre .1 in
-    (p .0, (p .1 .0, (omega arith, omega arith)))
+count-one-requires : (t : ℕ) → count-words-lts.Need-count-one-requires (claims t) (count-words-at t) count-words.Post
+count-one-requires t c κs = search needs
 
-count-words-returns : (t : ℕ) → count-words-lts.Need-returns (claims t) (count-words-at t) count-words.Post
-count-words-returns t c =
+returns : (t : ℕ) → count-words-lts.Need-returns (claims t) (count-words-at t) count-words.Post
+returns t c =
     let a = c .before .before .args in
-    let next : a .lo + 1 ≡ a .hi = omega (arith, c .before .if1 .taken) in
-    rw next at (c .count-word .ensures)
+    let end : a .lo + 1 ≡ a .hi = omega arith in
+    rw end at (c .count-one .ensures)
 
-count-words-sub-middle : (t : ℕ) → count-words-lts.Need-sub-middle (claims t) (count-words-at t) count-words.Post
-count-words-sub-middle t c = search needs
+count-two-requires : (t : ℕ) → count-words-lts.Need-count-two-requires (claims t) (count-words-at t) count-words.Post
+count-two-requires t c κs = search needs
 
-count-words-add-middle : (t : ℕ) → count-words-lts.Need-add-middle (claims t) (count-words-at t) count-words.Post
-count-words-add-middle t c = search needs
-
-count-words-count-words-requires : (t : ℕ) → count-words-lts.Need-count-words-requires (claims t) (count-words-at t) count-words.Post
-count-words-count-words-requires t c κs =
-    let p = c .before .pre .1 in
-    (omega arith, (p .0, (p .1 .0, (omega arith, (omega arith, omega arith)))))
-
-count-words-count-words-requires-2 : (t : ℕ) → count-words-lts.Need-count-words-requires-2 (claims t) (count-words-at t) count-words.Post
-count-words-count-words-requires-2 t c κs =
-    let p = c .before .before .pre .1 in
-    (omega arith, (p .0, (p .1 .0, (omega arith, (omega arith, omega arith)))))
-
-count-words-add-result : (t : ℕ) → count-words-lts.Need-add-result (claims t) (count-words-at t) count-words.Post
-count-words-add-result t c =
+returns-2 : (t : ℕ) → count-words-lts.Need-returns-2 (claims t) (count-words-at t) count-words.Post
+returns-2 t c =
     let a = c .before .before .before .args in
-    omega (
-      arith,
-      c .before .count-words .ensures,
-      c .count-words2 .ensures,
-      from-length (isAvailable (a .sam .now) (a .«com» .now)) (a .blocks) (32 * a .lo),
-    )
+    let end : a .lo + 2 ≡ a .hi = omega arith in
+    rw end at (c .count-two .ensures)
 
-count-words-returns-2 : (t : ℕ) → count-words-lts.Need-returns-2 (claims t) (count-words-at t) count-words.Post
-count-words-returns-2 t c =
-    omega (arith, c .before .count-words .ensures, c .count-words2 .ensures)
+count-four-requires : (t : ℕ) → count-words-lts.Need-count-four-requires (claims t) (count-words-at t) count-words.Post
+count-four-requires t c κs = search needs
+
+returns-3 : (t : ℕ) → count-words-lts.Need-returns-3 (claims t) (count-words-at t) count-words.Post
+returns-3 t c =
+    let a = c .before .before .before .before .args in
+    let end : a .lo + 4 ≡ a .hi = omega arith in
+    rw end at (c .count-four .ensures)
+
+add-middle : (t : ℕ) → count-words-lts.Need-add-middle (claims t) (count-words-at t) count-words.Post
+add-middle t c = search needs
+
+count-words-requires : (t : ℕ) → count-words-lts.Need-count-words-requires (claims t) (count-words-at t) count-words.Post
+count-words-requires t c κs = search needs
+
+count-words-requires-2 : (t : ℕ) → count-words-lts.Need-count-words-requires-2 (claims t) (count-words-at t) count-words.Post
+count-words-requires-2 t c κs = search needs
+
+add-result : (t : ℕ) → count-words-lts.Need-add-result (claims t) (count-words-at t) count-words.Post
+add-result t c = omega (arith, count-le (c .before .count-words .ensures), count-le (c .count-words2 .ensures))
+
+returns-4 : (t : ℕ) → count-words-lts.Need-returns-4 (claims t) (count-words-at t) count-words.Post
+returns-4 t c = count-join (omega arith) (c .before .count-words .ensures) (c .count-words2 .ensures)
 
 pub +count-words-spec : {M : Type 1} → statement M
 +count-words-spec = close μ-count-words λ t. count-words-lts.spec (claims t)
     (count-words-at t)
     count-words.Post
-    (count-words-sub-if1 t)
-    (count-words-count-word-requires t)
-    (count-words-returns t)
-    (count-words-sub-middle t)
-    (count-words-add-middle t)
-    (count-words-count-words-requires t)
-    (count-words-count-words-requires-2 t)
-    (count-words-add-result t)
-    (count-words-returns-2 t)
+    (sub-length t)
+    (count-one-requires t)
+    (returns t)
+    (count-two-requires t)
+    (returns-2 t)
+    (count-four-requires t)
+    (returns-3 t)
+    (add-middle t)
+    (count-words-requires t)
+    (count-words-requires-2 t)
+    (add-result t)
+    (returns-4 t)

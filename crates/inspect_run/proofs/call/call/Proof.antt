@@ -1,7 +1,7 @@
 -- The parts that are lent are parts of the disk and of the list.
 use mathlib.Core.Path.{sym}
 use lib.Seq.{length-take-le}
-use Rattle.inspect_run.proofs.Laws.Shape.{Parts, parts}
+use Rattle.inspect_state.proofs.Laws.Shape.{Parts, parts}
 use borrow.Author.Needs.{needs}
 use Rattle.inspect_run.proofs.call.call.Statement.{statement}
 use Rattle.inspect_run.proofs.call.call.Tie as tie

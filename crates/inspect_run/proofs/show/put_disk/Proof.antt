@@ -1,7 +1,7 @@
 -- The part that is printed is a part of the disk.
 use mathlib.Core.Path.{sym}
 use lib.Seq.{length-take-le}
-use Rattle.inspect_run.proofs.Laws.Shape.{Parts, parts}
+use Rattle.inspect_state.proofs.Laws.Shape.{Parts, parts}
 use borrow.Author.Needs.{needs}
 use Rattle.inspect_run.proofs.show.put_disk.Statement.{statement}
 use Rattle.inspect_run.proofs.show.put_disk.Tie as tie

@@ -8,9 +8,8 @@ use borrow.Author.Tests.{not-true, not-false}
 use borrow.Author.Needs.{needs}
 use Rattle.model.specs.Valid.{sameWords}
 use Rattle.disk_log.proofs.Laws.Tests.{and-left, and-none}
-use Rattle.model.proofs.Laws.Shape.{shaped}
 use Rattle.disk_log.proofs.Laws.Sam.{bitmap-is}
-use Rattle.journal.proofs.Laws.DiskMatches.{settled-matches}
+use Rattle.journal.proofs.Laws.DiskMatches.{settled-tests}
 use Rattle.journal.proofs.matching.settled_matches.Statement.{statement}
 use Rattle.journal.proofs.matching.settled_matches.Tie as tie
 
@@ -19,45 +18,34 @@ head-matches-requires c κs = search needs
 
 returns : tie.Need-returns
 returns c =
-    let start = c .before .before .before in
+    let compared = c .before in
+    let start = compared .before .before in
     sym
-    (settled-matches
-    (start .args .t1)
-    (now (start .args .disk))
-    (start .pre)
-    (shaped (start .args .t1) _ (start .good .0) .sam .size)
-    ∙ and-none _ (sym (c .before .head-matches .ensures) ∙ not-true _ (c .if1 .taken)))
+    (settled-tests (start .args .blocks) (now (start .args .disk)) (now (start .args .sam)) (start .pre .0) (start .pre .1 .size)
+    ∙ and-none _ (sym (compared .head-matches .ensures) ∙ not-true _ (c .if1 .taken)))
 
 bitmap-requires : tie.Need-bitmap-requires
 bitmap-requires c κs = search needs
 
 same-requires : tie.Need-same-requires
 same-requires c κs =
-    let start = c .before .before .before .before .before .before .before in (
-      rw
-          (c .before .before .before .bitmap .ensures)
-          (bitmap-is
-          (now (start .args .disk))
-          (start .pre)
-          (λ i. omega (arith, c .before .before .before .before .before .before .shared-slice-known .given i))),
-      shaped (start .args .t1) _ (start .good .0) .sam,
+    let copied = c .before in
+    let known = copied .before .before .before in
+    let start = known .before in (
+      rw (copied .bitmap .ensures) (bitmap-is (now (start .args .disk)) (start .pre .0) (λ i. omega (arith, known .shared-slice-known .given i))),
+      start .pre .1,
     )
 
 returns-2 : tie.Need-returns-2
 returns-2 c =
-    let start = c .before .before .before .before .before .before .before .before in
+    let copied = c .before .before in
+    let compared = copied .before .before in
+    let start = compared .before .before in
     c .same .ensures
-    ∙ ap (λ (w : List ℕ). sameWords w (start .args .t1 .sam .words)) (c .before .before .before .before .bitmap .ensures)
+    ∙ ap (λ (w : List ℕ). sameWords w (now (start .args .sam))) (copied .bitmap .ensures)
     ∙ sym
-    (settled-matches
-    (start .args .t1)
-    (now (start .args .disk))
-    (start .pre)
-    (shaped (start .args .t1) _ (start .good .0) .sam .size)
-    ∙ and-left
-    _
-    (sym (c .before .before .before .before .before .before .head-matches .ensures)
-    ∙ not-false _ (c .before .before .before .before .before .if1 .left)))
+    (settled-tests (start .args .blocks) (now (start .args .disk)) (now (start .args .sam)) (start .pre .0) (start .pre .1 .size)
+    ∙ and-left _ (sym (compared .head-matches .ensures) ∙ not-false _ (copied .before .if1 .left)))
 
 pub settled-matches-spec : {M : Type 1} → statement M
 settled-matches-spec =

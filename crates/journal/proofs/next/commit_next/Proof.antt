@@ -1,15 +1,19 @@
 -- The phases of a commit: the log, the commit point, the bitmap words, word 1 to 0.
-use Prim.Native.Nat.{_+_, _-_, _*_}
+use Prim.Native.Nat.{_+_, _-_, _*_, _≤_}
 use native.Mathlib.Omega.{arith}
 use denote.Ref.{now}
 use borrow.Author.Needs.{needs}
-use Rattle.model.proofs.Laws.Changes.{changes-length}
+use Rattle.bitmap.specs.Sizes.{bitmapWords}
+use Rattle.journal.proofs.Laws.Given.{changed-few}
 use Rattle.journal.proofs.Laws.NextOfCommit.{point-next, last-next, word-next}
 use Rattle.journal.proofs.next.commit_next.Statement.{statement}
 use Rattle.journal.proofs.next.commit_next.Tie as tie
 
+few-changed : (start : tie.Start) → start .args .changed ≤ bitmapWords
+few-changed start = changed-few (now (start .args .old)) (now (start .args .new)) (start .pre .0)
+
 mul-if1 : tie.Need-mul-if1
-mul-if1 c = omega (arith, changes-length (now (c .args .old)) (now (c .args .new)), c .pre .0 .size)
+mul-if1 c = omega (arith, few-changed c)
 
 log-word-requires : tie.Need-log-word-requires
 log-word-requires c κs = search needs
@@ -24,9 +28,7 @@ mul-if2 : tie.Need-mul-if2
 mul-if2 c = search needs
 
 cast-t11 : tie.Need-cast-t11
-cast-t11 c =
-    let start = c .before .before in
-    omega (arith, changes-length (now (start .args .old)) (now (start .args .new)), start .pre .0 .size)
+cast-t11 c = omega (arith, few-changed (c .before .before))
 
 returns-2 : tie.Need-returns-2
 returns-2 c =
@@ -34,10 +36,8 @@ returns-2 c =
     point-next
     (now (start .args .old))
     (now (start .args .new))
-    (start .pre .0 .size)
-    (start .args .changed)
+    (start .pre .0)
     (start .args .done)
-    (start .pre .1 .1 .0)
     (c .if2 .taken)
 
 mul-i : tie.Need-mul-i
@@ -55,10 +55,8 @@ returns-3 c =
     last-next
     (now (start .args .old))
     (now (start .args .new))
-    (start .pre .0 .size)
-    (start .args .changed)
+    (start .pre .0)
     (start .args .done)
-    (start .pre .1 .1 .0)
     (start .args .done - (2 * start .args .changed + 1))
     (omega arith)
     (c .if3 .taken)
@@ -66,7 +64,7 @@ returns-3 c =
 changed-word-requires : tie.Need-changed-word-requires
 changed-word-requires c κs =
     let start = c .before .before .before in
-    (start .pre .0, (start .pre .1 .0, omega (arith, c .before .before .if1 .left, c .before .if2 .left, c .if3 .left)))
+    (start .pre .0 .old-is, (start .pre .0 .new-is, omega (arith, start .pre .0 .changed-is, c .before .before .if1 .left, c .before .if2 .left, c .if3 .left)))
 
 add-t12 : tie.Need-add-t12
 add-t12 c = search needs
@@ -83,10 +81,8 @@ returns-4 c =
     word-next
     (now (start .args .old))
     (now (start .args .new))
-    (start .pre .0 .size)
-    (start .args .changed)
+    (start .pre .0)
     (start .args .done)
-    (start .pre .1 .1 .0)
     (start .args .done - (2 * start .args .changed + 1))
     (c .before .changed-word .result)
     (omega arith)

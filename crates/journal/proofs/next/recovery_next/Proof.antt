@@ -2,8 +2,8 @@
 use native.Mathlib.Omega.{arith}
 use denote.Ref.{now}
 use borrow.Author.Needs.{needs}
-use Rattle.disk_log.proofs.Laws.Replay.{entries-few}
 use Rattle.model.specs.Disk.{lengthIn}
+use Rattle.journal.proofs.Laws.Given.{logged-few}
 use Rattle.journal.proofs.Laws.NextStore.{recovery-word, recovery-last}
 use Rattle.journal.proofs.next.recovery_next.Statement.{statement}
 use Rattle.journal.proofs.next.recovery_next.Tie as tie
@@ -18,13 +18,13 @@ returns : tie.Need-returns
 unfolding lengthIn
 returns c =
     let start = c .before .before .before in
-    recovery-last (now (start .args .disk)) (start .pre .0) (start .pre .1 .0) (start .pre .1 .1 .0) (start .args .done) (c .if1 .taken)
+    recovery-last (now (start .args .disk)) (start .pre .0) (start .args .done) (c .if1 .taken)
 
 number-requires : tie.Need-number-requires
 unfolding lengthIn
 number-requires c κs =
     let start = c .before .before .before in
-    (start .pre .0, omega (arith, entries-few (now (start .args .disk)) (start .pre .1 .0) (start .pre .1 .1 .0), c .if1 .left))
+    (start .pre .0 .size, omega (arith, logged-few (now (start .args .disk)) (start .pre .0), c .if1 .left))
 
 cast-t5 : tie.Need-cast-t5
 cast-t5 c = search needs
@@ -36,23 +36,13 @@ contents-requires : tie.Need-contents-requires
 unfolding lengthIn
 contents-requires c κs =
     let start = c .before .before .before .before in
-    (start .pre .0, omega (arith, entries-few (now (start .args .disk)) (start .pre .1 .0) (start .pre .1 .1 .0)))
+    (start .pre .0 .size, omega (arith, logged-few (now (start .args .disk)) (start .pre .0)))
 
 returns-2 : tie.Need-returns-2
 unfolding lengthIn
 returns-2 c =
     let start = c .before .before .before .before .before in
-    recovery-word
-    (now (start .args .disk))
-    (start .pre .0)
-    (start .pre .1 .0)
-    (start .pre .1 .1 .0)
-    (start .args .done)
-    (c .before .number .result)
-    (c .contents .result)
-    (omega arith)
-    (c .before .number .ensures)
-    (c .contents .ensures)
+    recovery-word (now (start .args .disk)) (start .pre .0) (start .args .done) (omega arith) (c .before .number .ensures) (c .contents .ensures)
 
 pub recovery-next-spec : {M : Type 1} → statement M
 recovery-next-spec =

@@ -1,16 +1,29 @@
 -- The three tests are made in turn.
 use Prim.Native.Nat.{_≤_}
-use mathlib.Core.Path.{sym, _∙_}
+use mathlib.Core.Path.{_≡_, sym, _∙_}
+use mathlib.Core.Bool.{true}
 use native.Mathlib.Omega.{arith}
 use denote.Ref.{now}
 use borrow.Author.Tests.{not-true, not-false}
 use borrow.Author.Needs.{needs}
 use Rattle.bitmap.specs.Sizes.{maxBlocks}
 use Rattle.model.specs.Disk.{diskBlocks}
-use Rattle.journal.specs.Matching.{logAgrees}
-use Rattle.journal.proofs.Laws.Recovery.{head-blocks, stop-first, stop-second, go-last}
+use Rattle.journal.specs.Matching.{headIs, logAgrees}
+use Rattle.journal.proofs.Laws.Recovery.{head-blocks}
+use Rattle.journal.proofs.Laws.InTurn.{stop-first, stop-second, go-last}
 use Rattle.journal.proofs.recovery.log_agrees.Statement.{statement}
 use Rattle.journal.proofs.recovery.log_agrees.Tie as tie
+
+-- ---- what is known on the way
+
+abbrev start : tie.Else1 → tie.Start
+start c = c .before .before .before
+
+head-matched : (c : tie.Else1) → headIs (now (start c .args .disk)) (start c .args .blocks) (start c .args .entries) ≡ true
+head-matched c = sym (c .before .head-matches .ensures) ∙ not-false _ (c .if1 .left)
+
+few-blocks : (c : tie.Else1) → diskBlocks (now (start c .args .disk)) ≤ maxBlocks
+few-blocks c = omega (arith, head-blocks (now (start c .args .disk)) (start c .args .blocks) (start c .args .entries) (head-matched c))
 
 head-matches-requires : tie.Need-head-matches-requires
 head-matches-requires c κs = search needs
@@ -20,38 +33,30 @@ unfolding logAgrees
 returns c = sym (stop-first _ _ (sym (c .before .head-matches .ensures) ∙ not-true _ (c .if1 .taken)))
 
 log-valid-requires : tie.Need-log-valid-requires
-log-valid-requires c κs =
-    let start = c .before .before .before in
-    let head = sym (c .before .head-matches .ensures) ∙ not-false _ (c .if1 .left) in
-    (start .pre .0, omega (arith, start .pre .1 .1, head-blocks (now (start .args .disk)) (start .args .blocks) (start .args .entries) head))
+log-valid-requires c κs = (start c .pre .0, few-blocks c)
 
 returns-2 : tie.Need-returns-2
 unfolding logAgrees
 returns-2 c =
-    sym
-    (stop-second
-    _
-    (sym (c .before .before .before .head-matches .ensures) ∙ not-false _ (c .before .before .if1 .left))
-    (sym (c .before .log-valid .ensures) ∙ not-true _ (c .if2 .taken)))
+    sym (stop-second _ (head-matched (c .before .before)) (sym (c .before .log-valid .ensures) ∙ not-true _ (c .if2 .taken)))
 
 entries-agree-requires : tie.Need-entries-agree-requires
 entries-agree-requires c κs =
-    let start = c .before .before .before .before .before in
-    let head = sym (c .before .before .before .head-matches .ensures) ∙ not-false _ (c .before .before .if1 .left) in
-    let log = sym (c .before .log-valid .ensures) ∙ not-false _ (c .if2 .left) in
-    let few : diskBlocks (now (start .args .disk)) ≤ maxBlocks =
-    omega (arith, start .pre .1 .1, head-blocks (now (start .args .disk)) (start .args .blocks) (start .args .entries) head) in
-    (start .pre .0, (few, (log, start .pre .1 .0)))
+    let headed = c .before .before in (
+      record {
+        size = start headed .pre .0;
+        few-blocks = few-blocks headed;
+        log = sym (c .before .log-valid .ensures) ∙ not-false _ (c .if2 .left);
+      },
+      start headed .pre .1 .0,
+    )
 
 returns-3 : tie.Need-returns-3
 unfolding logAgrees
 returns-3 c =
+    let valid = c .before in
     c .entries-agree .ensures
-    ∙ sym
-    (go-last
-    _
-    (sym (c .before .before .before .before .head-matches .ensures) ∙ not-false _ (c .before .before .before .if1 .left))
-    (sym (c .before .before .log-valid .ensures) ∙ not-false _ (c .before .if2 .left)))
+    ∙ sym (go-last _ (head-matched (valid .before .before)) (sym (valid .before .log-valid .ensures) ∙ not-false _ (valid .if2 .left)))
 
 pub log-agrees-spec : {M : Type 1} → statement M
 log-agrees-spec =

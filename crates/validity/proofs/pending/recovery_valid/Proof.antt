@@ -2,52 +2,81 @@
 use Prim.Native.Nat.{ℕ, _≤_, _<_, _-_}
 use native.Mathlib.Omega.{arith}
 use mathlib.Core.Path.{_≡_, sym, ap, _∙_}
+use mathlib.Core.Bool.{true, false}
 use lib.ListN.{length, getD}
 use borrow.Author.Count.{below-none, below-more}
-use mathlib.Core.Bool.{false}
+use borrow.Author.Needs.{needs}
+use Rattle.bitmap.specs.Sizes.{slotCount}
 use Rattle.model.specs.declared.memory.Slot.{Slot}
-use Rattle.model.specs.Memory.{slotAt, isActive}
+use Rattle.model.specs.declared.memory.Pending.{Pending}
+use Rattle.model.specs.declared.memory.Memory.{Memory}
+use Rattle.model.specs.Memory.{bitmap, memoryOf, idleSlot, slotAt, isActive}
+use Rattle.model.specs.Valid.{sameWords}
+use Rattle.model.proofs.Laws.Shape.{ShapedSlots, slots-shaped, slots-read}
 use Rattle.validity.proofs.Laws.Slots.{taken-false, left-true}
-use Rattle.model.proofs.Laws.Shape.{Shaped, shaped, slot-read}
 use Rattle.validity.proofs.Laws.Pending.{recovery-active, recovery-differs, recovery-few, recovery-many, recovery-rest}
 use Rattle.validity.proofs.pending.recovery_valid.Statement.{statement}
 use Rattle.validity.proofs.pending.recovery_valid.Tie as tie
-use Rattle.validity.proofs.pending.recovery_valid.Reads as reads
-use Rattle.validity.proofs.pending.recovery_valid.Lts as lts
-use Rattle.bitops.proofs.compare.same.Reads as same-reads
-use Rattle.validity.proofs.state.is_active.Reads as is-active-reads
 
 abbrev Inv-loop : tie.InvT-loop
-Inv-loop done due memory s₀ s = (s ≤ 8) × ((k : ℕ) → k < s → isActive (slotAt memory k .state) ≡ false)
+Inv-loop blocks sam «com» done due slots s₀ s = (s ≤ slotCount) × ((k : ℕ) → k < s → isActive (getD slots k idleSlot .state) ≡ false)
 
 abbrev μ-loop : tie.MeasureT-loop
-μ-loop done due memory s₀ s = 8 - s
+μ-loop blocks sam «com» done due slots s₀ s = slotCount - s
 
-entry-shape : (c : tie.At-loop Inv-loop μ-loop) → Shaped (c .before .args .t1)
-entry-shape c = shaped (c .before .args .t1) _ (c .before .good .0)
+-- ---- what is known on the way
 
--- the slot that a turn reads
-turn-slot : (c : tie.In-loop Inv-loop μ-loop) (d : Slot) → getD (c .before .before .args .t1 .slots) (c .before .loop .s) d ≡ slotAt (c .before .before .args .t1) (c .before .loop .s)
-turn-slot c d = slot-read (c .before .before .args .t1) d (c .before .loop .s) (entry-shape (c .before)) (c .loop-test .taken)
+abbrev memory-at : tie.Start Inv-loop μ-loop → Memory
+memory-at c =
+    memoryOf (c .args .blocks) (bitmap (c .args .sam .now)) (bitmap (c .args .«com» .now)) (c .args .t4) (Pending.Recovery (c .args .done) (c .args .due))
+
+slots-at : (c : tie.Start Inv-loop μ-loop) → ShapedSlots (c .args .t4)
+slots-at c = slots-shaped (c .args .t4) _ (c .good .1 .1 .1 .0)
+
+-- the state of the slot that a turn looks at
+state-at : (c : tie.After-is-active Inv-loop μ-loop)
+    → isActive (slotAt (memory-at (c .before .before .before .before)) (c .before .before .before .loop .s) .state) ≡ c .is-active .result
+state-at c =
+    let at = c .before .before in
+    ap (λ (slot : Slot). isActive (slot .state)) (sym (slots-read _ _ (at .before .loop .s) (slots-at (at .before .before)) (at .loop-test .taken)))
+    ∙ sym (c .is-active .ensures)
+
+-- where all slots are known to be idle
+abbrev start : tie.After-loop Inv-loop μ-loop → tie.Start Inv-loop μ-loop
+start c = c .before .before
+
+idle-at : (c : tie.After-loop Inv-loop μ-loop) (s : ℕ) → s < length (start c .args .t4) → isActive (slotAt (memory-at (start c)) s .state) ≡ false
+idle-at c s l = c .before .loop .inv .1 s (omega (arith, slots-at (start c) .eight, c .loop-test .left))
+
+-- and where COM is known to be the same as SAM
+abbrev idle : tie.Else2 Inv-loop μ-loop → tie.After-loop Inv-loop μ-loop
+idle c = c .before .before
+
+same-at : (c : tie.Else2 Inv-loop μ-loop) → sameWords (start (idle c) .args .«com» .now) (start (idle c) .args .sam .now) ≡ true
+same-at c = left-true _ _ (c .before .same .ensures) (c .if2 .left)
+
+-- and W is
+abbrev same : tie.After-words-for Inv-loop μ-loop → tie.Else2 Inv-loop μ-loop
+same c = c .before .before
+
+-- ---- the answers
 
 loop-holds : tie.Need-loop-holds Inv-loop μ-loop
-loop-holds c = (omega arith, below-none (λ k. isActive (slotAt (c .args .t1) k .state) ≡ false))
+loop-holds c = (omega arith, below-none (λ k. isActive (getD (c .args .t4) k idleSlot .state) ≡ false))
 
 mul-slot : tie.Need-mul-slot Inv-loop μ-loop
 mul-slot c = omega arith
 
-element-copy-out-slot : tie.Need-element-copy-out-slot Inv-loop μ-loop
-element-copy-out-slot c = omega arith
+array-copy-out-slot : tie.Need-array-copy-out-slot Inv-loop μ-loop
+array-copy-out-slot c = omega arith
 
 is-active-requires : tie.Need-is-active-requires Inv-loop μ-loop
-is-active-requires c κs = tt
+is-active-requires c κs = search needs
 
 returns : tie.Need-returns Inv-loop μ-loop
 returns c =
-    let at = c .before .before .before in
-    let a = at .before .before .args in
-    recovery-active (a .t1) (a .done) (a .due) (at .before .loop .s) (omega (arith, entry-shape (at .before) .slots))
-    (ap (λ (slot : Slot). isActive (slot .state)) (sym (turn-slot at _)) ∙ sym (c .before .is-active .ensures) ∙ c .if1 .taken)
+    let at = c .before .before .before .before in
+    recovery-active (memory-at (at .before)) _ _ (at .loop .s) (state-at (c .before) ∙ c .if1 .taken)
 
 add-s : tie.Need-add-s Inv-loop μ-loop
 add-s c = omega arith
@@ -57,46 +86,35 @@ loop-less c = omega arith
 
 loop-again : tie.Need-loop-again Inv-loop μ-loop
 loop-again c =
-    let at = c .before .before .before in
-    let s = at .before .loop .s in
-    let memory = at .before .before .args .t1 in
-    let idle : isActive (slotAt memory s .state) ≡ false =
-    ap (λ (slot : Slot). isActive (slot .state)) (sym (turn-slot at _)) ∙ sym (c .before .is-active .ensures) ∙ c .if1 .left in
-    (omega arith, below-more (λ k. isActive (slotAt memory k .state) ≡ false) s (at .before .loop .inv .1) idle)
+    let at = c .before .before .before .before in (
+      omega arith,
+      below-more (λ k. isActive (slotAt (memory-at (at .before)) k .state) ≡ false) (at .loop .s) (at .loop .inv .1) (state-at (c .before) ∙ c .if1 .left),
+    )
 
 same-requires : tie.Need-same-requires Inv-loop μ-loop
-same-requires c κs = let shape = entry-shape (c .before .before .before .before .before .before .before) in (shape .com, shape .sam)
+same-requires c κs = let maps = start c .pre .1 in (maps .1, maps .0)
 
 returns-2 : tie.Need-returns-2 Inv-loop μ-loop
 returns-2 c =
-    let a = c .before .before .before .before .before .before .before .before .before .before .args in
-    recovery-differs (a .t1) (a .done) (a .due) (taken-false _ _ (c .before .same .ensures) (c .if2 .taken))
+    recovery-differs (memory-at (start (c .before .before))) _ _ (taken-false _ _ (c .before .same .ensures) (c .if2 .taken))
 
 returns-3 : tie.Need-returns-3 Inv-loop μ-loop
-returns-3 c =
-    let a = c .before .before .before .before .before .before .before .before .before .before .before .args in
-    recovery-few (a .t1) (a .done) (a .due) (c .if3 .taken)
+returns-3 c = recovery-few (memory-at (start (idle (c .before)))) _ _ (c .if3 .taken)
+
+words-for-requires : tie.Need-words-for-requires Inv-loop μ-loop
+words-for-requires c κs = omega arith
 
 add-if4 : tie.Need-add-if4 Inv-loop μ-loop
-add-if4 c = omega arith
-
-add-if4-2 : tie.Need-add-if4-2 Inv-loop μ-loop
-add-if4-2 c = omega arith
+add-if4 c = omega (arith, c .words-for .ensures)
 
 returns-4 : tie.Need-returns-4 Inv-loop μ-loop
 returns-4 c =
-    let a = c .before .before .before .before .before .before .before .before .before .before .before .before .args in
-    recovery-many (a .t1) (a .done) (a .due) (c .if4 .taken)
+    recovery-many (memory-at (start (idle (same (c .before))))) _ _ (omega (arith, c .before .words-for .ensures))
 
 returns-5 : tie.Need-returns-5 Inv-loop μ-loop
 returns-5 c =
-    let at = c .before .before .before .before .before .before .before .before .before .before .before in
-    let a = at .before .args in
-    recovery-rest (a .t1) (a .done) (a .due)
-    (λ s l. at .loop .inv .1 s (omega (arith, entry-shape at .slots, c .before .before .before .before .before .before .before .before .before .before .loop-test .left)))
-    (left-true _ _ (c .before .before .before .same .ensures) (c .before .before .if2 .left))
-    (c .before .if3 .left)
-    (c .if4 .left)
+    let at = same (c .before) in
+    recovery-rest (memory-at (start (idle at))) _ _ (idle-at (idle at)) (same-at at) (c .before .before .if3 .left) (omega (arith, c .before .words-for .ensures))
 
 pub recovery-valid-spec : {M : Type 1} → statement M
 recovery-valid-spec =
@@ -106,7 +124,7 @@ recovery-valid-spec =
     μ-loop
     loop-holds
     mul-slot
-    element-copy-out-slot
+    array-copy-out-slot
     is-active-requires
     returns
     add-s
@@ -115,7 +133,7 @@ recovery-valid-spec =
     same-requires
     returns-2
     returns-3
+    words-for-requires
     add-if4
-    add-if4-2
     returns-4
     returns-5)

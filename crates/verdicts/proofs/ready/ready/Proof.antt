@@ -1,32 +1,45 @@
--- Each test is the next cause.
-use mathlib.Core.Path.{sym, _∙_}
-use borrow.Author.Tests.{not-true, not-false}
-use Rattle.verdicts.proofs.Laws.Ready.{invalid-refused, pending-refused, range-refused, ready-accepted}
+-- Three causes, one after the other.
+use mathlib.Core.Path.{refl, ap}
+use mathlib.Core.Bool.{not}
 use borrow.Author.Needs.{needs}
+use Rattle.verdicts.proofs.Laws.Verdicts.{none-tested, then-tested}
 use Rattle.verdicts.proofs.ready.ready.Statement.{statement}
 use Rattle.verdicts.proofs.ready.ready.Tie as tie
 
-returns : tie.Need-returns
-returns c = invalid-refused _ _ (sym (c .before .pre) ∙ not-true _ (c .if1 .taken))
+unless-requires : tie.Need-unless-requires
+unless-requires c κs = search needs
 
 is-nothing-requires : tie.Need-is-nothing-requires
 is-nothing-requires c κs = search needs
 
-returns-2 : tie.Need-returns-2
-returns-2 c =
-    pending-refused _ _ (sym (c .before .before .before .pre) ∙ not-false _ (c .before .before .if1 .left))
-    (sym (c .before .is-nothing .ensures) ∙ not-true _ (c .if2 .taken))
+unless-requires-2 : tie.Need-unless-requires-2
+unless-requires-2 c κs = search needs
 
-returns-3 : tie.Need-returns-3
-returns-3 c =
-    range-refused _ _ (sym (c .before .before .before .before .pre) ∙ not-false _ (c .before .before .before .if1 .left))
-    (sym (c .before .before .is-nothing .ensures) ∙ not-false _ (c .before .if2 .left)) (c .if3 .taken)
+slot-in-range-requires : tie.Need-slot-in-range-requires
+slot-in-range-requires c κs = search needs
 
-returns-4 : tie.Need-returns-4
-returns-4 c =
-    ready-accepted _ _ (sym (c .before .before .before .before .pre) ∙ not-false _ (c .before .before .before .if1 .left))
-    (sym (c .before .before .is-nothing .ensures) ∙ not-false _ (c .before .if2 .left)) (c .if3 .left)
+unless-requires-3 : tie.Need-unless-requires-3
+unless-requires-3 c κs = search needs
+
+returns : tie.Need-returns
+returns c =
+    let in-range = c .before .slot-in-range in
+    let settled = c .before .before .unless2 in
+    let nothing = c .before .before .before .is-nothing in
+    let valid = c .before .before .before .before .unless in
+    then-tested _ _ _ (c .unless3 .ensures)
+    (then-tested _ _ _ (settled .ensures)
+    (then-tested _ _ _ (valid .ensures) none-tested refl)
+    (ap not (nothing .ensures)))
+    (ap not (in-range .ensures))
 
 pub ready-spec : {M : Type 1} → statement M
 ready-spec =
-    tie.close (tie.spec returns is-nothing-requires returns-2 returns-3 returns-4)
+    tie.close
+    (tie.spec
+    unless-requires
+    is-nothing-requires
+    unless-requires-2
+    slot-in-range-requires
+    unless-requires-3
+    returns)

@@ -1,0 +1,2 @@
+-- The verdict, and what the call leaves.
+pub mod Allocate

@@ -1,0 +1,18 @@
+-- The causes that allocate alone tests, in document 01's order, told by parts of a memory.
+use Prim.Native.Nat.{ℕ}
+use mathlib.Core.Bool.{not}
+use mathlib.Core.List.{List, [], _∷_}
+use lib.ListN.{length}
+use lib.Dec.{ltb}
+use Rattle.bitmap.specs.Sizes.{countInRange}
+use Rattle.bitmap.specs.Blocks.{availableBlocks}
+use Rattle.model.specs.declared.error.Error.the-variants.{CountRange, ListShort, TooFewAvailable}
+use Rattle.model.specs.Errors.{Cause, _⇒_}
+
+-- 15, 16 and 17
+abbrev pub countCauses : ℕ → List ℕ → List ℕ → ℕ → List ℕ → List Cause
+countCauses blocks sam «com» count list =
+    not (countInRange count) ⇒ CountRange
+    ∷ ltb (length list) count ⇒ ListShort
+    ∷ ltb (length (availableBlocks blocks sam «com»)) count ⇒ TooFewAvailable
+    ∷ []

@@ -1,0 +1,2 @@
+-- The causes that allocate alone tests.
+pub mod Causes

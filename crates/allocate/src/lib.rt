@@ -1,0 +1,78 @@
+// Allocate: the lowest available blocks to a slot, their numbers to the first places of the list.
+ghost use mathlib.Core.Path.{_≡_};
+ghost use mathlib.Core.Bool.{true};
+ghost use Prim.Native.Nat.{_≤_};
+ghost use Rattle.bitmap.specs.Sizes.{maxBlocks};
+ghost use Rattle.bitmap.specs.Bits.{IsBitmap};
+ghost use Rattle.model.specs.Calls.Allocate.{allocateAnswer, allocateMemory, allocateList};
+ghost use Rattle.verdicts.specs.Verdicts.{isAccepted, thenCauses};
+ghost use Rattle.allocate.specs.Causes.{countCauses};
+use available::count::count_available;
+use available::scan::take_lowest;
+use bitmap::Bitmap;
+use model::answer::GrantAnswer;
+use model::answer::Granted;
+use model::error::Error;
+use model::memory::Memory;
+use validity::valid;
+use verdicts::ready::open;
+use verdicts::verdict::Verdict;
+
+// After the causes of an open slot, 15, 16 and 17.
+fn enough<'a>(
+    earlier: Verdict,
+    blocks: u32,
+    sam: &'a [u32; 128],
+    com: &'a [u32; 128],
+    count: u32,
+    list: &[u32],
+) -> Verdict
+    requires { ⌜ IsBitmap (now sam) ⌝ }
+    requires { ⌜ IsBitmap (now «com») ⌝ }
+    requires { ⌜ (isAccepted earlier ≡ true → blocks ≤ maxBlocks) ⌝ }
+    ensures { λ r. ⌜ r ≡ thenCauses earlier (countCauses blocks (now (sam .entry)) (now («com» .entry)) count (now (list .entry))) ⌝ }
+{
+    if !earlier.is_accepted() {
+        return earlier;
+    }
+    let few = count_available(sam, com, blocks) < count;
+    let counted = Verdict::Accepted.unless(!Bitmap::count_in_range(count), Error::CountRange);
+    let roomy = counted.unless(list.len() < count as usize, Error::ListShort);
+    roomy.unless(few, Error::TooFewAvailable)
+}
+
+// Gives a slot blocks. Refused, the memory and the list stay.
+pub fn allocate(mut memory: Memory, slot: u32, count: u32, list: &mut [u32]) -> Granted
+    ensures answers { λ r. ⌜ r .answer ≡ allocateAnswer memory slot count (now (list .entry)) ⌝ }
+    ensures leaves { λ r. ⌜ r .memory ≡ allocateMemory memory slot count (now (list .entry)) ⌝ }
+    ensures lists { λ _. ⌜ now (list .exit) ≡ allocateList memory slot count (now (list .entry)) ⌝ }
+{
+    let blocks = memory.blocks;
+    let sam = memory.sam;
+    let mut com = memory.com;
+    let mut slots = memory.slots;
+    let pending = memory.pending;
+    let owner = slots[pending.owner()];
+    let sound = valid(blocks, &sam.words, &com.words, slots, pending, owner);
+    let at = Bitmap::slot_index(slot);
+    let mut own = slots[at];
+    let state = own.state;
+    let earlier = open(sound, pending, slot, state);
+    let verdict = enough(earlier, blocks, &sam.words, &com.words, count, list);
+    let mut answer = verdict.grant(0);
+    if verdict.is_accepted() {
+        take_lowest(
+            &sam.words,
+            &mut com.words,
+            &mut own.tam.words,
+            list,
+            blocks,
+            count,
+        );
+        slots[at] = own;
+        answer = GrantAnswer::First(list[0]);
+    }
+    memory.com = com;
+    memory.slots = slots;
+    Granted { answer, memory }
+}

@@ -1,0 +1,18 @@
+-- Available blocks counted in words that a volume fills.
+use Prim.Native.Nat.{ℕ, _+_, _*_, _≤_, _<_}
+use mathlib.Core.Path.{_≡_}
+use mathlib.Core.List.{List}
+use Rattle.bitmap.specs.Sizes.{wordBits, bitmapWords}
+use Rattle.bitmap.specs.Bits.{IsBitmap}
+use Rattle.available.specs.Available.{countFrom}
+
+-- two bitmaps, and some words of theirs, from lo up to hi
+pub record CanCount (sam «com» : List ℕ) (lo hi : ℕ) : Type 0 where
+  pub isSam : IsBitmap sam
+  pub isCom : IsBitmap «com»
+  pub some : lo < hi
+  pub within : hi ≤ bitmapWords
+
+-- these words have r available blocks, in every volume that fills them
+pub record IsCount (sam «com» : List ℕ) (lo hi r : ℕ) : Type 0 where
+  pub inVolume : (m : ℕ) → wordBits * hi ≤ m → r + countFrom m sam «com» hi ≡ countFrom m sam «com» lo

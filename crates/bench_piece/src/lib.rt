@@ -1,0 +1,3 @@
+// A piece of the bench program's input: its lines answered, and the bytes behind the last of them kept.
+mod keep;
+pub mod piece;

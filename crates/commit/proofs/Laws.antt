@@ -1,0 +1,3 @@
+-- A commit that changes no word, and the stores of one that does.
+pub mod Unchanged
+pub mod Commit

@@ -1,0 +1,2 @@
+-- The stores that a commit is due.
+pub mod Due

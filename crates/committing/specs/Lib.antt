@@ -1,2 +1,0 @@
--- What a commit makes of the slots.
-pub mod Committed

@@ -1,0 +1,2 @@
+-- The causes that deallocate alone tests.
+pub mod Causes

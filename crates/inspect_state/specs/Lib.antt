@@ -1,0 +1,3 @@
+-- Bounds of what is kept, and numbers in a line.
+pub mod Sized
+pub mod Onward

@@ -1,0 +1,89 @@
+// What a further line does. Out of range it alters nothing.
+ghost use Rattle.inspect_state.specs.Sized.{Sized};
+use crate::damage::block_count;
+use crate::damage::com_word;
+use crate::damage::pending_work;
+use crate::damage::sam_word;
+use crate::damage::slot_state;
+use crate::damage::tam_word;
+use crate::fixture::Fixture;
+use crate::fixture::MAX_LENGTH;
+use crate::fixture::MAX_PLACES;
+use crate::fixture::Step;
+use crate::further::Further;
+
+// Word I of the disk becomes V.
+fn disk_word(mut fixture: Fixture, index: u32, word: u32) -> Step
+    requires { ⌜ Sized fixture ⌝ }
+    ensures { λ r. ⌜ Sized (r .fixture) ⌝ }
+{
+    let i = index as usize;
+    if i < fixture.length {
+        fixture.disk[i] = word;
+        return fixture.done();
+    }
+    fixture.malformed()
+}
+
+// Puts zeros from an index on.
+fn clear(words: &mut [u32], from: usize) {
+    let mut i = from;
+    while i < words.len() {
+        words[i] = 0;
+        i += 1;
+    }
+}
+
+// The disk becomes N words long; words added are 0.
+fn disk_length(mut fixture: Fixture, words: u32) -> Step
+    requires { ⌜ Sized fixture ⌝ }
+    ensures { λ r. ⌜ Sized (r .fixture) ⌝ }
+{
+    let length = words as usize;
+    if MAX_LENGTH < length {
+        return fixture.malformed();
+    }
+    let mut disk = fixture.disk;
+    clear(&mut disk, fixture.length);
+    fixture.disk = disk;
+    fixture.length = length;
+    fixture.done()
+}
+
+// The list lent from now on is its first N places.
+fn list_places(mut fixture: Fixture, number: u32) -> Step
+    requires { ⌜ Sized fixture ⌝ }
+    ensures { λ r. ⌜ Sized (r .fixture) ⌝ }
+{
+    let places = number as usize;
+    if MAX_PLACES < places {
+        return fixture.malformed();
+    }
+    fixture.places = places;
+    fixture.done()
+}
+
+// Any further line.
+pub fn alter(line: Further, fixture: Fixture) -> Step
+    requires { ⌜ Sized fixture ⌝ }
+    ensures { λ r. ⌜ Sized (r .fixture) ⌝ }
+{
+    match line {
+        Further::Disk { index, word } => disk_word(fixture, index, word),
+        Further::Length { words } => disk_length(fixture, words),
+        Further::Blocks { blocks } => block_count(fixture, blocks),
+        Further::Sam { index, word } => sam_word(fixture, index, word),
+        Further::Com { index, word } => com_word(fixture, index, word),
+        Further::Tam { slot, index, word } => tam_word(fixture, slot, index, word),
+        Further::State { slot, code } => slot_state(fixture, slot, code),
+        Further::Pending {
+            kind,
+            slot,
+            done,
+            due,
+        } => pending_work(fixture, kind, slot, done, due),
+        Further::List { places } => list_places(fixture, places),
+        Further::Show => fixture.done(),
+        Further::Malformed => fixture.malformed(),
+    }
+}

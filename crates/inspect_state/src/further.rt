@@ -1,0 +1,133 @@
+// The form of a further line: a word and its numbers, one space between them (docs/TEST-LINES.md).
+use crate::numbers::Numbers;
+use crate::numbers::numbers_from;
+use bytes::scan::find;
+use check::same;
+
+// A further line. Its numbers may be out of range.
+pub enum Further {
+    Disk {
+        index: u32,
+        word: u32,
+    },
+    Length {
+        words: u32,
+    },
+    Blocks {
+        blocks: u32,
+    },
+    Sam {
+        index: u32,
+        word: u32,
+    },
+    Com {
+        index: u32,
+        word: u32,
+    },
+    Tam {
+        slot: u32,
+        index: u32,
+        word: u32,
+    },
+    State {
+        slot: u32,
+        code: u32,
+    },
+    Pending {
+        kind: u32,
+        slot: u32,
+        done: u32,
+        due: u32,
+    },
+    List {
+        places: u32,
+    },
+    Show,
+    Malformed,
+}
+
+// A word with no number.
+fn zero(name: &[u8]) -> Further {
+    if same(name, b"show") {
+        return Further::Show;
+    }
+    Further::Malformed
+}
+
+// A word with one number.
+fn one(name: &[u8], number: u32) -> Further {
+    if same(name, b"length") {
+        return Further::Length { words: number };
+    }
+    if same(name, b"blocks") {
+        return Further::Blocks { blocks: number };
+    }
+    if same(name, b"list") {
+        return Further::List { places: number };
+    }
+    Further::Malformed
+}
+
+// A word with two numbers.
+fn two(name: &[u8], first: u32, second: u32) -> Further {
+    if same(name, b"disk") {
+        return Further::Disk {
+            index: first,
+            word: second,
+        };
+    }
+    if same(name, b"sam") {
+        return Further::Sam {
+            index: first,
+            word: second,
+        };
+    }
+    if same(name, b"com") {
+        return Further::Com {
+            index: first,
+            word: second,
+        };
+    }
+    if same(name, b"state") {
+        return Further::State {
+            slot: first,
+            code: second,
+        };
+    }
+    Further::Malformed
+}
+
+// A word with three numbers.
+fn three(name: &[u8], slot: u32, index: u32, word: u32) -> Further {
+    if same(name, b"tam") {
+        return Further::Tam { slot, index, word };
+    }
+    Further::Malformed
+}
+
+// A word with four numbers.
+fn four(name: &[u8], kind: u32, slot: u32, done: u32, due: u32) -> Further {
+    if same(name, b"pending") {
+        return Further::Pending {
+            kind,
+            slot,
+            done,
+            due,
+        };
+    }
+    Further::Malformed
+}
+
+// A line, without its byte 10, taken apart.
+pub fn parse(line: &[u8]) -> Further {
+    let end = find(line, 0, line.len(), b' ');
+    let name = &line[..end];
+    match numbers_from(line, end) {
+        Numbers::Zero => zero(name),
+        Numbers::One(a) => one(name, a),
+        Numbers::Two(a, b) => two(name, a, b),
+        Numbers::Three(a, b, c) => three(name, a, b, c),
+        Numbers::Four(a, b, c, d) => four(name, a, b, c, d),
+        Numbers::Malformed => Further::Malformed,
+    }
+}

@@ -1,0 +1,53 @@
+-- A memory's pending work by the parts that the code takes: SAM, the SAM that a commit makes, and the stores done and due.
+use Prim.Native.Nat.{ℕ, _≤_, _<_}
+use mathlib.Core.Path.{_≡_, sym, ap, _∙_}
+use mathlib.Core.Bool.{true}
+use mathlib.Core.List.{List}
+use native.Mathlib.Omega.{arith}
+use lib.ListN.{length}
+use Rattle.bitmap.specs.Sizes.{maxBlocks}
+use Rattle.model.specs.declared.memory.Memory.{Memory}
+use Rattle.model.specs.declared.memory.Pending.the-variants.{Commit, Recovery}
+use Rattle.model.specs.Stores.{Store, changes, storesFor}
+use Rattle.model.specs.Commit.{entriesOf, changedOf}
+use Rattle.model.specs.Valid.{pendingValid, valid}
+use Rattle.model.specs.Disk.{diskBlocks, logLength, logValid, recoveryMatches, diskMatches}
+use Rattle.model.proofs.Laws.Matching.{matching-parts}
+use Rattle.model.proofs.Laws.Pending.{commit-parts, recovery-parts}
+use Rattle.model.proofs.Laws.Valid.{valid-parts}
+
+-- ---- a commit, its changes from SAM to a new one
+
+-- the stores due, by those words
+pub commit-due-is : (memory : Memory) (s done due : ℕ) (new : List ℕ) → memory .pending ≡ Commit s done due
+    → entriesOf memory s ≡ changes (memory .sam .words) new → valid memory ≡ true → due ≡ storesFor (length (changes (memory .sam .words) new))
+unfolding changedOf
+commit-due-is memory s done due new e changed v =
+    commit-parts memory s done due (ap (pendingValid memory) (sym e) ∙ valid-parts memory v .pending-valid) .due-is
+    ∙ ap (λ (es : List Store). storesFor (length es)) changed
+
+-- ---- a recovery
+
+-- what the disk has that matches it
+pub record InRecovery (disk : List ℕ) (done : ℕ) : Type 0 where
+  pub few-blocks : diskBlocks disk ≤ maxBlocks
+  pub log : logValid disk ≡ true
+  pub done-few : done ≤ logLength disk
+
+module _ (memory : Memory) (done due : ℕ) (e : memory .pending ≡ Recovery done due) where
+  pub recovery-done-less : valid memory ≡ true → done < due
+  recovery-done-less v =
+      recovery-parts memory done due (ap (pendingValid memory) (sym e) ∙ valid-parts memory v .pending-valid) .not-ended
+
+  recovery-disk : (disk : List ℕ) → diskMatches memory disk (memory .pending) ≡ recoveryMatches (memory .blocks) (memory .sam .words) disk done due
+  unfolding diskMatches
+  recovery-disk disk = ap (diskMatches memory disk) e
+
+  pub in-recovery : (disk : List ℕ) → valid memory ≡ true → diskMatches memory disk (memory .pending) ≡ true → InRecovery disk done
+  in-recovery disk v m =
+      let parts = matching-parts (memory .blocks) (memory .sam .words) disk done due (sym (recovery-disk disk) ∙ m) in
+      record {
+        few-blocks = omega (arith, valid-parts memory v .few-blocks, parts .blocks-is);
+        log = parts .log;
+        done-few = omega (arith, recovery-done-less v, parts .due-is);
+      }

@@ -1,0 +1,2 @@
+-- What a rollback makes of COM.
+pub mod Rollback

@@ -1,0 +1,34 @@
+// Precommit: the slot takes no more touches.
+ghost use mathlib.Core.Path.{_≡_};
+ghost use Rattle.model.specs.Calls.Precommit.{precommitAnswer, precommitMemory};
+use bitmap::Bitmap;
+use model::answer::Changed;
+use model::memory::Memory;
+use model::memory::Slot;
+use model::memory::SlotState;
+use validity::valid;
+use verdicts::ready::open;
+
+// Precommits an open slot. Refused, the memory stays.
+pub fn precommit(mut memory: Memory, slot: u32) -> Changed
+    ensures answers { λ r. ⌜ r .answer ≡ precommitAnswer memory slot ⌝ }
+    ensures leaves { λ r. ⌜ r .memory ≡ precommitMemory memory slot ⌝ }
+{
+    let sam = memory.sam;
+    let com = memory.com;
+    let mut slots = memory.slots;
+    let pending = memory.pending;
+    let owner = slots[pending.owner()];
+    let sound = valid(memory.blocks, &sam.words, &com.words, slots, pending, owner);
+    let at = Bitmap::slot_index(slot);
+    let own = slots[at];
+    let state = own.state;
+    let verdict = open(sound, pending, slot, state);
+    let answer = verdict.answer();
+    if verdict.is_accepted() {
+        let tam = own.tam;
+        slots[at] = Slot::new(SlotState::Precommitted, tam);
+    }
+    memory.slots = slots;
+    Changed { answer, memory }
+}

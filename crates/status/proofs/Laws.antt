@@ -1,0 +1,2 @@
+-- Slots counted, and what the counts come to.
+pub mod Status

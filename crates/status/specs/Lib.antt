@@ -1,0 +1,2 @@
+-- What status answers, by its parts.
+pub mod Status

@@ -1,0 +1,209 @@
+-- A store by parts is the store of the memory: its verdict, the disk and the memory that it leaves.
+use Prim.Native.Nat.{ℕ, suc, _+_, _<_}
+use mathlib.Core.Path.{_≡_, refl, sym, ap, ap₂, _∙_}
+use mathlib.Core.Bool.{Bool, true, false, not, cond, false≢true}
+use mathlib.Core.Option.{Option, none}
+use mathlib.Core.List.{List, [], _∷_, map}
+use lib.ListN.{length, getD, set, take, drop}
+use lib.Dec.{eqb}
+use borrow.Author.Tests.{lt-ltb}
+use Rattle.bitmap.specs.Bits.{IsBitmap, noBitsFrom}
+use Rattle.bitmap.specs.Sizes.{slotCount, slotInRange, slotIndex}
+use Rattle.bitmap.specs.declared.Bitmap.{Bitmap}
+use Rattle.model.specs.declared.error.Error.{Error}
+use Rattle.model.specs.declared.error.Error.the-variants.{MemoryInvalid, DiskLength, DiskMismatch, NothingPending}
+use Rattle.model.specs.declared.answer.StoresAnswer.{StoresAnswer}
+use Rattle.model.specs.declared.memory.Slot.{Slot}
+use Rattle.model.specs.declared.memory.Pending.{Pending}
+use Rattle.model.specs.declared.memory.Pending.the-variants.{Nothing, Commit, Recovery}
+use Rattle.model.specs.declared.memory.Memory.{Memory}
+use Rattle.model.specs.Answers.{due}
+use Rattle.model.specs.Errors.{Cause, first, _⇒_}
+use Rattle.model.specs.Memory.{slotAt, idleSlot, isActive, withSam, withSlots, withPending}
+use Rattle.model.specs.Stores.{Store, writes, after, changes, commitStores}
+use Rattle.model.specs.Commit.{committedSam, entriesOf, refreshed, committed}
+use Rattle.model.specs.Pending.{isNothing, ownerOf, storesDone, storesDue, oneMoreDone, finished}
+use Rattle.model.specs.Valid.{sameWords, valid, pendingValid}
+use Rattle.model.specs.Disk.{baseImage, dueStores, diskMatches}
+use Rattle.model.specs.Causes.{memoryInvalid, diskLengthWrong, diskMismatched, nothingPending}
+use Rattle.model.specs.Calls.Storing.{storeError, advanced, nextStored}
+use Rattle.model.specs.Sizes.{diskWords}
+use Rattle.model.proofs.Laws.Shape.{Shaped, empty-is}
+use Rattle.model.proofs.Laws.First.{cause-holds}
+use Rattle.model.proofs.Laws.Valid.{ValidParts, valid-parts, slot-below, noBits-empty}
+use Rattle.model.proofs.Laws.Committed.{committed-bitmap, committed-below}
+use Rattle.model.proofs.Laws.Pending.{CommitParts, commit-parts, precommitted-active, precommitted-below}
+use Rattle.model.proofs.Laws.CommittedTam.{committed-tam, entries-tam}
+use Rattle.verdicts.specs.declared.verdict.Verdict.{Verdict}
+use Rattle.verdicts.specs.Verdicts.{verdict}
+use Rattle.journal.proofs.Laws.PendingWork.{commit-due-is, recovery-done-less, in-recovery}
+use Rattle.store.specs.Refreshed.{refreshedSlot}
+use Rattle.store.specs.Progress.{Unfinished, pendingAfter, endsCommit}
+use Rattle.store.specs.Step.{Fits, CanStore, partsMatch, storeCauses, storesOf, diskAfter}
+use Rattle.store.proofs.Laws.Slots.{map-set}
+use Rattle.store.proofs.Laws.Refreshed.{refreshed-slot, refreshed-idle}
+
+-- the slot of a pending commit; another where there is none
+abbrev pub owner : Memory → Slot
+owner memory = getD (memory .slots) (ownerOf (memory .pending)) idleSlot
+
+-- a function that agrees on each slot
+map-each : (f g : Slot → Slot) (slots : List Slot) → ((t : ℕ) → f (getD slots t idleSlot) ≡ g (getD slots t idleSlot)) → map f slots ≡ map g slots
+map-each f g [] h = refl
+map-each f g (slot ∷ slots) h = ap₂ _∷_ (h 0) (map-each f g slots (λ t. h (suc t)))
+
+module _ (memory : Memory) (shape : Shaped memory) (v : valid memory ≡ true) where
+  parts : ValidParts memory
+  parts = valid-parts memory v
+
+  -- ---- a commit in hand
+
+  module _ (s done due : ℕ) (e : memory .pending ≡ Commit s done due) where
+    tested : CommitParts memory s done due
+    tested = commit-parts memory s done due (ap (pendingValid memory) (sym e) ∙ parts .pending-valid)
+
+    active : isActive (slotAt memory s .state) ≡ true
+    active = precommitted-active (slotAt memory s .state) (tested .precommitted)
+
+    below : s < slotCount
+    below = precommitted-below memory s (shape .slots) (tested .precommitted)
+
+    owner-is : owner memory ≡ slotAt memory s
+    unfolding ownerOf slotIndex slotInRange
+    owner-is = ap (λ (p : Pending). getD (memory .slots) (ownerOf p) idleSlot) e ∙ rw (lt-ltb s slotCount below)
+
+    entries-is : entriesOf memory s ≡ changes (memory .sam .words) (owner memory .tam .words)
+    entries-is = entries-tam memory s parts (shape .tam s) active ∙ ap (λ (slot : Slot). changes (memory .sam .words) (slot .tam .words)) (sym owner-is)
+
+    sam-is : committedSam memory s ≡ owner memory .tam
+    sam-is = committed-tam memory s parts (shape .tam s) active ∙ ap (λ (slot : Slot). slot .tam) (sym owner-is)
+
+    -- the other slots: whole words make the bits that the model names
+    slots-are : map (refreshedSlot (memory .sam .words) (owner memory .tam .words)) (set (memory .slots) s idleSlot)
+        ≡ set (map (refreshed memory (committedSam memory s)) (memory .slots)) s idleSlot
+    slots-are =
+        map-set (refreshedSlot (memory .sam .words) (owner memory .tam .words)) (memory .slots) s idleSlot
+        ∙ ap₂ (λ (slots : List Slot) (slot : Slot). set slots s slot)
+        (map-each _ _ (memory .slots) (λ t. refreshed-is (slotAt memory t) (shape .tam t) (slot-below memory t parts)))
+        (refreshed-is idleSlot empty-is (noBits-empty (memory .blocks)) ∙ refreshed-idle memory (committedSam memory s))
+      where
+        refreshed-is : (slot : Slot) → IsBitmap (slot .tam .words) → noBitsFrom (memory .blocks) (slot .tam .words) ≡ true
+            → refreshedSlot (memory .sam .words) (owner memory .tam .words) slot ≡ refreshed memory (committedSam memory s) slot
+        refreshed-is slot is end =
+            ap (λ (sam : Bitmap). refreshedSlot (memory .sam .words) (sam .words) slot) (sym sam-is)
+            ∙ refreshed-slot memory (committedSam memory s) slot shape parts (committed-bitmap memory s) (committed-below memory s) is end
+
+  -- ---- what is asked
+
+  unfinished : Unfinished (memory .pending)
+  unfolding isNothing storesDone storesDue
+  unfinished = go (memory .pending) refl
+    where
+      go : (p : Pending) → memory .pending ≡ p → Unfinished p
+      go Nothing e n = absurd (false≢true (sym n))
+      go (Commit s done due) e n = tested s done due e .not-ended
+      go (Recovery done due) e n = recovery-done-less memory done due e v
+
+  pub fits : Fits (memory .blocks) (memory .sam .words) (owner memory .tam .words) (memory .pending)
+  fits =
+      record {
+        few-blocks = parts .few-blocks;
+        due-is = λ s done due e. commit-due-is memory s done due (owner memory .tam .words) e (entries-is s done due e) v;
+        unfinished = unfinished;
+      }
+
+  pub can-store : (disk : List ℕ) → length disk ≡ diskWords → diskMatches memory disk (memory .pending) ≡ true
+      → IsBitmap (owner memory .tam .words)
+      → CanStore (memory .sam .words) (owner memory .tam .words) disk (memory .pending)
+  can-store disk size m is =
+      record {
+        size = size;
+        isSam = shape .sam;
+        isNew = is;
+        due-is = fits .due-is;
+        unfinished = unfinished;
+        few-blocks = λ done due e. in-recovery memory done due e disk v m .few-blocks;
+        log = λ done due e. in-recovery memory done due e disk v m .log;
+        done-few = λ done due e. in-recovery memory done due e disk v m .done-few;
+      }
+
+  -- ---- the disk
+
+  matches-is : (disk : List ℕ) → partsMatch (memory .blocks) (memory .sam .words) (owner memory .tam .words) disk (memory .pending) ≡ diskMatches memory disk (memory .pending)
+  unfolding partsMatch diskMatches
+  matches-is disk = go (memory .pending) refl
+    where
+      go : (p : Pending) → memory .pending ≡ p → partsMatch (memory .blocks) (memory .sam .words) (owner memory .tam .words) disk p ≡ diskMatches memory disk p
+      go Nothing e = refl
+      go (Commit s done due) e =
+          ap (λ (es : List Store). sameWords disk (after done (commitStores es) (baseImage (memory .blocks) (memory .sam .words) disk))) (sym (entries-is s done due e))
+      go (Recovery done due) e = refl
+
+  pub stored-is : (disk : List ℕ) → diskAfter (memory .sam .words) (owner memory .tam .words) disk (memory .pending) ≡ nextStored memory disk
+  unfolding diskAfter storesOf nextStored dueStores
+  stored-is disk = go (memory .pending) refl
+    where
+      go : (p : Pending) → memory .pending ≡ p
+          → diskAfter (memory .sam .words) (owner memory .tam .words) disk p ≡ writes (take 1 (drop (storesDone p) (dueStores memory disk p))) disk
+      go Nothing e = refl
+      go (Commit s done due) e =
+          ap (λ (es : List Store). writes (take 1 (drop (storesDone (Commit s done due)) (commitStores es))) disk) (sym (entries-is s done due e))
+      go (Recovery done due) e = refl
+
+  -- ---- the memory
+
+  pub ended-commit : endsCommit (memory .pending) ≡ true
+      → withPending
+      (withSlots
+      (withSam memory (owner memory .tam))
+      (map (refreshedSlot (memory .sam .words) (owner memory .tam .words)) (set (memory .slots) (ownerOf (memory .pending)) idleSlot)))
+      (pendingAfter (memory .pending))
+      ≡ advanced memory (memory .pending)
+  unfolding endsCommit pendingAfter advanced finished committed storesDone storesDue ownerOf slotIndex slotInRange
+  ended-commit = go (memory .pending) refl
+    where
+      new : List Slot → List Slot
+      new slots = map (refreshedSlot (memory .sam .words) (owner memory .tam .words)) slots
+
+      go : (p : Pending) → memory .pending ≡ p → endsCommit p ≡ true
+          → withPending (withSlots (withSam memory (owner memory .tam)) (new (set (memory .slots) (ownerOf p) idleSlot))) (pendingAfter p) ≡ advanced memory p
+      go Nothing e t = absurd (false≢true t)
+      go (Commit s done due) e t =
+          rw (t, lt-ltb s slotCount (below s done due e))
+          (ap₂ (λ (sam : Bitmap) (slots : List Slot). withPending (withSlots (withSam memory sam) slots) Nothing) (sym (sam-is s done due e)) (slots-are s done due e))
+      go (Recovery done due) e t = absurd (false≢true t)
+
+  pub no-commit-ended : endsCommit (memory .pending) ≡ false → withPending memory (pendingAfter (memory .pending)) ≡ advanced memory (memory .pending)
+  unfolding endsCommit pendingAfter advanced finished storesDone storesDue oneMoreDone
+  no-commit-ended = go (memory .pending)
+    where
+      either : (t : Bool) (p : Pending) → withPending memory (cond t Nothing p) ≡ cond t (withPending memory Nothing) (withPending memory p)
+      either true p = refl
+      either false p = refl
+
+      go : (p : Pending) → endsCommit p ≡ false → withPending memory (pendingAfter p) ≡ advanced memory p
+      go Nothing t = refl
+      go (Commit s done due) t = rw t
+      go (Recovery done due) t = either (eqb (done + 1) due) (Recovery (done + 1) due)
+
+-- ---- the verdict
+
+pub store-verdict : {judged : Verdict} {sound : Bool} (memory : Memory) (disk : List ℕ) → Shaped memory → sound ≡ valid memory
+    → judged ≡ verdict (first (storeCauses sound (memory .blocks) (memory .sam .words) (owner memory .tam .words) disk (memory .pending)))
+    → judged ≡ verdict (storeError memory disk)
+unfolding storeError memoryInvalid diskMismatched nothingPending
+store-verdict {judged} {sound} memory disk shape tested e = e ∙ rw tested (go (valid memory) refl)
+  where
+    causes : Bool → Bool → List Cause
+    causes t m = not t ⇒ MemoryInvalid ∷ diskLengthWrong disk ⇒ DiskLength ∷ not m ⇒ DiskMismatch ∷ isNothing (memory .pending) ⇒ NothingPending ∷ []
+
+    go : (t : Bool) → valid memory ≡ t
+        → verdict (first (causes t (partsMatch (memory .blocks) (memory .sam .words) (owner memory .tam .words) disk (memory .pending))))
+        ≡ verdict (first (causes t (diskMatches memory disk (memory .pending))))
+    go true v = ap (λ (m : Bool). verdict (first (causes true m))) (matches-is memory shape v disk)
+    go false v = ap verdict (cause-holds true MemoryInvalid _ refl ∙ sym (cause-holds true MemoryInvalid _ refl))
+
+-- accepted, it answers with what is still due
+pub accepted-stores : (found : Option Error) (n : ℕ) → found ≡ none → StoresAnswer.Due n ≡ due found n
+unfolding due
+accepted-stores found n e = rw e

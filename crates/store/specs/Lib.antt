@@ -1,0 +1,4 @@
+-- What a store tests and makes, by parts of a memory.
+pub mod Refreshed
+pub mod Progress
+pub mod Step

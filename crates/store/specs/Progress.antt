@@ -1,0 +1,26 @@
+-- Pending work after one more store.
+use Prim.Native.Nat.{_+_, _<_}
+use mathlib.Core.Path.{_≡_}
+use mathlib.Core.Bool.{Bool, false, cond}
+use lib.Dec.{eqb}
+use Rattle.model.specs.declared.memory.Pending.{Pending}
+use Rattle.model.specs.declared.memory.Pending.the-variants.{Nothing, Commit, Recovery}
+use Rattle.model.specs.Pending.{isNothing, storesDone, storesDue, oneMoreDone}
+
+-- work that is pending has a store left
+abbrev pub Unfinished : Pending → Type 0
+Unfinished pending = isNothing pending ≡ false → storesDone pending < storesDue pending
+
+-- whether the next store is the last
+abbrev pub endsWith : Pending → Bool
+endsWith pending = eqb (storesDone pending + 1) (storesDue pending)
+
+-- one more is done, or the work ends
+unfoldable pub pendingAfter : Pending → Pending
+pendingAfter pending = cond (endsWith pending) Nothing (oneMoreDone pending)
+
+-- whether the next store is a commit's last
+unfoldable pub endsCommit : Pending → Bool
+endsCommit Nothing = false
+endsCommit (Commit s done due) = eqb (done + 1) due
+endsCommit (Recovery done due) = false

@@ -1,2 +1,0 @@
--- Each call: what its causes come to, one after the other, and its effect.
-pub mod Store

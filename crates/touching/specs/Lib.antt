@@ -1,3 +1,0 @@
--- The causes that allocate and deallocate alone test.
-pub mod Allocate
-pub mod Deallocate

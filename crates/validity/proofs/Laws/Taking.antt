@@ -1,0 +1,61 @@
+-- The loop that takes what a slot has touched from what is left, after k words.
+use Prim.Native.Nat.{ℕ, _+_, _-_, _^_, _≤_, _<_}
+use native.Mathlib.Omega.{arith}
+use mathlib.Core.Path.{_≡_, refl, sym, ap₂, _∙_}
+use mathlib.Core.Bool.{Bool}
+use mathlib.Core.List.{List}
+use lib.ListN.{getD, set}
+use lib.Bits.{bitAnd, bitOr, bitXor}
+use lib.Dec.{eqb}
+use Rattle.bitmap.specs.Sizes.{wordBits, bitmapWords}
+use Rattle.bitmap.specs.Bits.{IsBitmap}
+use Rattle.bitmap.specs.Blocks.{allBelow}
+use Rattle.bitops.proofs.Laws.Overwrite.{Overwritten}
+use Rattle.model.specs.declared.memory.Slot.{Slot}
+use Rattle.validity.specs.Left.{differ, wordLeft, allLeft, TouchedTaken, SlotTaken}
+use Rattle.validity.proofs.Laws.Differ.{differ-is, differ-at}
+use Rattle.validity.proofs.Laws.Words.{differ-next, differ-step, differ-all, wrong-more}
+
+-- the touched blocks of these words are taken, and `wrong` has those that weren't left
+pub record Taking (old touched left : List ℕ) (wrong k : ℕ) : Type 0 where
+  pub few : k ≤ bitmapWords
+  pub written : Overwritten k (differ old touched) old left
+  pub found : eqb wrong 0 ≡ allBelow k (wordLeft old touched)
+
+pub taking-none : (old touched : List ℕ) → Taking old touched old 0 0
+unfolding allBelow
+taking-none old touched = record { few = omega arith; written = refl; found = refl }
+
+module _ (old sam tam left : List ℕ) (wrong k : ℕ) (oldIs : IsBitmap old) (samIs : IsBitmap sam) (tamIs : IsBitmap tam)
+    (so : Taking old (differ tam sam) left wrong k) where
+  touchedIs : IsBitmap (differ tam sam)
+  touchedIs = differ-is tam sam tamIs samIs
+
+  pub taking-more : k < bitmapWords
+      → Taking old (differ tam sam) (set left k (bitXor (getD left k 0) (bitXor (getD tam k 0) (getD sam k 0))))
+      (bitOr wrong (bitAnd (bitXor (getD tam k 0) (getD sam k 0)) (2 ^ wordBits - 1 - getD left k 0)))
+      (k + 1)
+  taking-more h =
+      let next : getD left k 0 ≡ getD old k 0 = differ-next old (differ tam sam) old k oldIs touchedIs (oldIs .size) (so .written) h in
+      let touches : bitXor (getD tam k 0) (getD sam k 0) ≡ getD (differ tam sam) k 0 = sym (differ-at tam sam tamIs samIs k) in
+      record {
+        few = omega arith;
+        written = differ-step old (differ tam sam) old k oldIs touchedIs (oldIs .size) (so .written) h (ap₂ bitXor next touches);
+        found =
+            ap₂ (λ (x y : ℕ). eqb (bitOr wrong (bitAnd x (2 ^ wordBits - 1 - y))) 0) touches next
+            ∙ wrong-more old (differ tam sam) wrong k (so .found);
+      }
+
+  pub taking-all : bitmapWords ≤ k → TouchedTaken old (differ tam sam) (eqb wrong 0) left
+  unfolding allLeft
+  taking-all h =
+      let all : k ≡ bitmapWords = omega (arith, so .few) in
+      record {
+        answer = rw all at (so .found);
+        rest = differ-all old (differ tam sam) old k oldIs touchedIs (oldIs .size) (so .written) h;
+      }
+
+-- the same slot, under another name
+pub taken-same : {slot other : Slot} {r t : Bool} (left sam left' : List ℕ) → slot ≡ other → r ≡ t
+    → SlotTaken (slot .state) left sam (slot .tam .words) r left' → SlotTaken (other .state) left sam (other .tam .words) t left'
+taken-same left sam left' e f taken = rw (← e, ← f) taken

@@ -1,0 +1,137 @@
+-- Each way out is a law of `valid`. The loop's invariant says what the slots passed leave.
+use Prim.Native.Nat.{_-_}
+use native.Mathlib.Omega.{arith}
+use mathlib.Core.Path.{_≡_, refl}
+use mathlib.Core.Bool.{Bool, true, false}
+use lib.ListN.{getD}
+use borrow.Author.Tests.{not-true, not-false}
+use Rattle.bitmap.specs.Sizes.{slotCount}
+use Rattle.model.specs.declared.memory.Slot.{Slot}
+use Rattle.model.specs.declared.memory.Pending.{Pending}
+use Rattle.model.specs.declared.memory.Memory.{Memory}
+use Rattle.model.specs.Memory.{bitmap, memoryOf, slotAt}
+use Rattle.model.proofs.Laws.Shape.{Shaped, slots-shaped, slot-read}
+use Rattle.validity.specs.Left.{SlotTaken}
+use Rattle.validity.proofs.Laws.Slots.{taken-false, left-true, parts-shaped}
+use Rattle.validity.proofs.Laws.Taking.{taken-same}
+use Rattle.validity.proofs.Laws.Passed.{Passed, passed-none, passed-more}
+use Rattle.validity.proofs.Laws.Maps.{volumeValid, volume-wrong, slot-wrong, left-decides}
+use Rattle.validity.proofs.maps_valid.Statement.{statement}
+use Rattle.validity.proofs.maps_valid.Tie as tie
+
+abbrev Inv-loop : tie.InvT-loop
+Inv-loop blocks sam «com» slots left₀ s₀ left s = Passed (memoryOf blocks (bitmap sam) (bitmap «com») slots Pending.Nothing) s left
+
+abbrev μ-loop : tie.MeasureT-loop
+μ-loop blocks sam «com» slots left₀ s₀ left s = slotCount - s
+
+-- ---- what is known on the way
+
+abbrev memory-at : tie.Start Inv-loop μ-loop → Memory
+memory-at c =
+    memoryOf (c .args .blocks) (bitmap (c .args .sam .now)) (bitmap (c .args .«com» .now)) (c .args .t4) Pending.Nothing
+
+shape-at : (c : tie.Start Inv-loop μ-loop) → Shaped (memory-at c)
+shape-at c = parts-shaped (c .pre .0) (c .pre .1) (slots-shaped (c .args .t4) _ (c .good .1 .1 .1 .0))
+
+abbrev start : tie.At-loop Inv-loop μ-loop → tie.Start Inv-loop μ-loop
+start c = c .before .before .before .before .before
+
+volume-at : (c : tie.At-loop Inv-loop μ-loop) → volumeValid (memory-at (start c)) ≡ true
+volume-at c =
+    let entry = c .before .before .before in
+    left-true (entry .before .volume-valid .result) (volumeValid (memory-at (start c))) (entry .before .volume-valid .ensures) (entry .if1 .left)
+
+-- the slot that a turn takes
+slot-at : (c : tie.In-loop Inv-loop μ-loop) (d : Slot)
+    → getD (start (c .before) .args .t4) (c .before .loop .s) d ≡ slotAt (memory-at (start (c .before))) (c .before .loop .s)
+slot-at c d = slot-read (memory-at (start (c .before))) d (c .before .loop .s) (shape-at (start (c .before))) (c .loop-test .taken)
+
+-- where it is taken
+abbrev turn : tie.After-take-slot Inv-loop μ-loop → tie.In-loop Inv-loop μ-loop
+turn c = c .before .before .before .before .before
+
+taken-at : (c : tie.After-take-slot Inv-loop μ-loop) (r : Bool) → c .take-slot .result ≡ r
+    → SlotTaken
+    (slotAt (memory-at (start (turn c .before))) (turn c .before .loop .s) .state)
+    (turn c .before .loop .left)
+    (start (turn c .before) .args .sam .now)
+    (slotAt (memory-at (start (turn c .before))) (turn c .before .loop .s) .tam .words)
+    r
+    (c .take-slot .last .1 .0)
+taken-at c r e = taken-same _ _ _ (slot-at (turn c) _) e (c .take-slot .ensures)
+
+-- ---- the answers
+
+volume-valid-requires : tie.Need-volume-valid-requires Inv-loop μ-loop
+volume-valid-requires c κs = c .pre
+
+returns : tie.Need-returns Inv-loop μ-loop
+returns c = volume-wrong (memory-at (c .before .before)) (taken-false _ _ (c .before .volume-valid .ensures) (c .if1 .taken))
+
+differences-requires : tie.Need-differences-requires Inv-loop μ-loop
+differences-requires c κs = (refl, c .before .before .before .pre)
+
+loop-holds : tie.Need-loop-holds Inv-loop μ-loop
+loop-holds c =
+    let at = c .before .before .before .before in
+    rw (c .differences .ensures) (passed-none (memory-at at) (shape-at at))
+
+mul-slot : tie.Need-mul-slot Inv-loop μ-loop
+mul-slot c = omega arith
+
+array-copy-out-slot : tie.Need-array-copy-out-slot Inv-loop μ-loop
+array-copy-out-slot c = omega arith
+
+take-slot-requires : tie.Need-take-slot-requires Inv-loop μ-loop
+take-slot-requires c κs =
+    let at = c .before .before .before .before in
+    let shape = shape-at (start (at .before)) in
+    (at .before .loop .inv .is, (shape .sam, rw (slot-at at _) (shape .tam (at .before .loop .s))))
+
+returns-2 : tie.Need-returns-2 Inv-loop μ-loop
+returns-2 c =
+    let at = turn (c .before) .before in
+    slot-wrong (memory-at (start at)) (shape-at (start at)) (at .loop .s) (at .loop .left) _ (at .loop .inv)
+    (taken-at (c .before) false (not-true _ (c .if2 .taken)))
+
+add-s : tie.Need-add-s Inv-loop μ-loop
+add-s c = omega arith
+
+loop-less : tie.Need-loop-less Inv-loop μ-loop
+loop-less c = omega arith
+
+loop-again : tie.Need-loop-again Inv-loop μ-loop
+loop-again c =
+    let at = turn (c .before) .before in
+    passed-more (memory-at (start at)) (at .loop .s) (at .loop .left) _ (shape-at (start at)) (turn (c .before) .loop-test .taken) (at .loop .inv)
+    (taken-at (c .before) true (not-false _ (c .if2 .left)))
+
+is-empty-requires : tie.Need-is-empty-requires Inv-loop μ-loop
+is-empty-requires c κs = c .before .before .loop .inv .is
+
+returns-3 : tie.Need-returns-3 Inv-loop μ-loop
+returns-3 c =
+    let at = c .before .before .before in
+    let all : at .loop .s ≡ slotCount = omega arith in
+    left-decides (memory-at (start at)) (shape-at (start at)) (at .loop .left) _ refl (volume-at at) (rw all at (at .loop .inv)) (c .is-empty .ensures)
+
+pub maps-valid-spec : {M : Type 1} → statement M
+maps-valid-spec =
+    tie.close
+    (tie.spec
+    Inv-loop
+    μ-loop
+    volume-valid-requires
+    returns
+    differences-requires
+    loop-holds
+    mul-slot
+    array-copy-out-slot
+    take-slot-requires
+    returns-2
+    add-s
+    loop-less
+    loop-again
+    is-empty-requires
+    returns-3)

@@ -1,0 +1,25 @@
+-- One cause more.
+use mathlib.Core.Path.{ap}
+use mathlib.Core.Bool.{not}
+use borrow.Author.Needs.{needs}
+use Rattle.verdicts.proofs.Laws.Verdicts.{then-tested}
+use Rattle.verdicts.proofs.ready.precommitted.Statement.{statement}
+use Rattle.verdicts.proofs.ready.precommitted.Tie as tie
+
+active-requires : tie.Need-active-requires
+active-requires c κs = search needs
+
+is-precommitted-requires : tie.Need-is-precommitted-requires
+is-precommitted-requires c κs = search needs
+
+unless-requires : tie.Need-unless-requires
+unless-requires c κs = search needs
+
+returns : tie.Need-returns
+returns c =
+    let earlier = c .before .before .active in
+    let tested = c .before .is-precommitted in
+    then-tested _ _ _ (c .unless .ensures) (earlier .ensures) (ap not (tested .ensures))
+
+pub precommitted-spec : {M : Type 1} → statement M
+precommitted-spec = tie.close (tie.spec active-requires is-precommitted-requires unless-requires returns)
