@@ -15,10 +15,10 @@ use Rattle.model.proofs.Laws.Accepted.{rollback-accepted}
 use Rattle.verdicts.specs.Verdicts.{verdict}
 use Rattle.verdicts.proofs.Laws.Verdicts.{error-of, accepted-none, accepted-leaves, refused-leaves}
 use Rattle.verdicts.proofs.Laws.Ready.{index-is, own-slot, own-tam, owner-read, active-verdict}
-use Rattle.slots.proofs.Laws.Rollback.{rolled-com}
+use Rattle.rollback.proofs.Laws.Rollback.{rolled-com}
 use borrow.Author.Needs.{needs}
-use Rattle.slots.proofs.rollback.rollback.Statement.{statement}
-use Rattle.slots.proofs.rollback.rollback.Tie as tie
+use Rattle.rollback.proofs.rollback.Statement.{statement}
+use Rattle.rollback.proofs.rollback.Tie as tie
 
 -- ---- what is known on the way
 

@@ -3,18 +3,19 @@ use mathlib.Core.List.{List}
 use lib.ListN.{set}
 use mathlib.Core.Path.{_≡_, ap, ap₂, _∙_}
 use mathlib.Core.Logic.{⊎-elim}
+use Rattle.model.specs.declared.memory.SlotState.the-variants.{Precommitted}
 use Rattle.model.specs.declared.memory.Slot.{Slot}
 use Rattle.model.specs.Answers.{done}
-use Rattle.model.specs.Memory.{withSlots}
-use Rattle.model.specs.Calls.Start.{startError, started, startAnswer, startMemory}
+use Rattle.model.specs.Memory.{withSlots, withState}
+use Rattle.model.specs.Calls.Precommit.{precommitError, precommitting, precommitAnswer, precommitMemory}
 use Rattle.model.proofs.Laws.Shape.{Shaped, shaped}
-use Rattle.model.proofs.Laws.Accepted.{start-accepted}
+use Rattle.model.proofs.Laws.Accepted.{precommit-accepted}
 use Rattle.verdicts.specs.Verdicts.{verdict}
 use Rattle.verdicts.proofs.Laws.Verdicts.{error-of, accepted-none, accepted-leaves, refused-leaves}
-use Rattle.verdicts.proofs.Laws.Ready.{index-is, owner-read, idle-verdict}
+use Rattle.verdicts.proofs.Laws.Ready.{index-is, own-slot, owner-read, open-verdict}
 use borrow.Author.Needs.{needs}
-use Rattle.slots.proofs.start.start.Statement.{statement}
-use Rattle.slots.proofs.start.start.Tie as tie
+use Rattle.precommit.proofs.precommit.Statement.{statement}
+use Rattle.precommit.proofs.precommit.Tie as tie
 
 -- ---- what is known on the way
 
@@ -25,12 +26,12 @@ shape-at c = shaped (c .args .memory) _ (c .good .0)
 abbrev entered : tie.Joined1 → tie.Start
 entered c = c .before .before .before .before .before .before .before .before .before .before .before .before .before .before .before .before
 
-verdict-is : (c : tie.Joined1) → c .before .before .before .idle .result ≡ verdict (startError (entered c .args .memory) (entered c .args .slot))
+verdict-is : (c : tie.Joined1) → c .before .before .before .open .result ≡ verdict (precommitError (entered c .args .memory) (entered c .args .slot))
 verdict-is c =
     let judged = c .before .before .before in
     let looked = judged .before .before .slot-index in
     let tested = judged .before .before .before .valid in
-    idle-verdict (entered c .args .memory) _ (entered c .args .slot) (shape-at (entered c)) (looked .ensures) (tested .ensures) (judged .idle .ensures)
+    open-verdict (entered c .args .memory) _ (entered c .args .slot) (shape-at (entered c)) (looked .ensures) (tested .ensures) (judged .open .ensures)
 
 -- ---- the needs
 
@@ -58,8 +59,8 @@ mul-own c = search needs
 array-copy-out-own : tie.Need-array-copy-out-own
 array-copy-out-own c = search needs
 
-idle-requires : tie.Need-idle-requires
-idle-requires c κs = search needs
+open-requires : tie.Need-open-requires
+open-requires c κs = search needs
 
 answer-requires : tie.Need-answer-requires
 answer-requires c κs = search needs
@@ -77,26 +78,26 @@ array-set-from-slots : tie.Need-array-set-from-slots
 array-set-from-slots c = search needs
 
 returns : tie.Need-returns
-unfolding startAnswer startMemory started
+unfolding precommitAnswer precommitMemory precommitting
 returns c =
     let a = entered c .args in
-    let error = startError (a .memory) (a .slot) in
+    let error = precommitError (a .memory) (a .slot) in
     let test = c .before .is-accepted .ensures in
     let looked = c .before .before .before .before .before .slot-index .ensures in (
       c .before .before .answer .ensures ∙ ap done (error-of error (verdict-is c)),
       ⊎-elim
           (λ w.
-          let below = start-accepted (a .memory) (a .slot) (accepted-none error (verdict-is c) test (w .0 .taken)) .ready .below in
-          ap (λ (slots : List Slot). withSlots (a .memory) slots) (w .2 ∙ ap₂ (set (a .memory .slots)) (index-is (a .slot) looked below) (w .1 .ensures))
-          ∙ accepted-leaves error (started (a .memory) (a .slot)) (a .memory) (verdict-is c) test (w .0 .taken))
+          let below = precommit-accepted (a .memory) (a .slot) (accepted-none error (verdict-is c) test (w .0 .taken)) .ready .below in
+          ap (λ (slots : List Slot). withSlots (a .memory) slots) (w .3 ∙ ap₂ (set (a .memory .slots)) (index-is (a .slot) looked below) (w .2 .ensures ∙ ap (λ (slot : Slot). withState slot Precommitted) (own-slot (a .memory) _ (a .slot) (shape-at (entered c)) looked below)))
+          ∙ accepted-leaves error (precommitting (a .memory) (a .slot)) (a .memory) (verdict-is c) test (w .0 .taken))
           (λ w.
           ap (λ (slots : List Slot). withSlots (a .memory) slots) (w .1)
-          ∙ refused-leaves error (started (a .memory) (a .slot)) (a .memory) (verdict-is c) test (w .0 .left))
+          ∙ refused-leaves error (precommitting (a .memory) (a .slot)) (a .memory) (verdict-is c) test (w .0 .left))
           (c .if1 .came),
     )
 
-pub start-spec : {M : Type 1} → statement M
-start-spec =
+pub precommit-spec : {M : Type 1} → statement M
+precommit-spec =
     tie.close
     (tie.spec
     owner-requires
@@ -106,7 +107,7 @@ start-spec =
     slot-index-requires
     mul-own
     array-copy-out-own
-    idle-requires
+    open-requires
     answer-requires
     is-accepted-requires
     new-requires

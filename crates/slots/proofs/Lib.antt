@@ -1,2 +1,0 @@
--- Lemmas of the calls' proofs.
-pub mod Laws
