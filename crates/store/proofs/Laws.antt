@@ -3,4 +3,5 @@ pub mod Slots
 pub mod Refreshed
 pub mod Progress
 pub mod Step
+pub mod PendingWork
 pub mod Store

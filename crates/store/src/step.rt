@@ -8,13 +8,13 @@ ghost use Rattle.model.specs.Errors.{first};
 ghost use Rattle.verdicts.specs.Verdicts.{verdict};
 ghost use Rattle.store.specs.Step.{Fits, CanStore, partsMatch, storeCauses, diskAfter};
 use disk_log::layout::DISK_WORDS;
-use journal::matching::commit_matches;
-use journal::matching::settled_matches;
-use journal::recovery::recovery_matches;
-use journal::stores::store_commit;
-use journal::stores::store_recovery;
+use disk_match::matching::commit_matches;
+use disk_match::matching::settled_matches;
+use disk_match::recovery::recovery_matches;
 use model::error::Error;
 use model::memory::Pending;
+use next_store::stores::store_commit;
+use next_store::stores::store_recovery;
 use verdicts::verdict::Verdict;
 
 // Whether the disk is as the memory and its stores done leave it.

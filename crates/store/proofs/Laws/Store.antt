@@ -36,12 +36,12 @@ use Rattle.model.proofs.Laws.Pending.{CommitParts, commit-parts, precommitted-a
 use Rattle.model.proofs.Laws.CommittedTam.{committed-tam, entries-tam}
 use Rattle.verdicts.specs.declared.verdict.Verdict.{Verdict}
 use Rattle.verdicts.specs.Verdicts.{verdict}
-use Rattle.journal.proofs.Laws.PendingWork.{commit-due-is, recovery-done-less, in-recovery}
 use Rattle.store.specs.Refreshed.{refreshedSlot}
 use Rattle.store.specs.Progress.{Unfinished, pendingAfter, endsCommit}
 use Rattle.store.specs.Step.{Fits, CanStore, partsMatch, storeCauses, storesOf, diskAfter}
 use Rattle.store.proofs.Laws.Slots.{map-set}
 use Rattle.store.proofs.Laws.Refreshed.{refreshed-slot, refreshed-idle}
+use Rattle.store.proofs.Laws.PendingWork.{commit-due-is, recovery-done-less, in-recovery}
 
 -- the slot of a pending commit; another where there is none
 abbrev pub owner : Memory → Slot

@@ -1,0 +1,106 @@
+-- A disk compared as a whole: the tests by which it is as SAM, or as a commit's stores, leave it.
+use Prim.Native.Nat.{ℕ, _+_, _-_, _*_, _<_}
+use mathlib.Core.Path.{_≡_, refl, sym, ap, ap₂, _∙_}
+use mathlib.Core.Bool.{Bool, true, false, cond, _&&_, and-assoc}
+use mathlib.Core.List.{List}
+use native.Mathlib.Nat.{sub-zero}
+use native.Mathlib.Omega.{arith}
+use lib.ListN.{length, take, drop}
+use lib.Seq.{take-all}
+use lib.Dec.{leb, eqb}
+use borrow.Author.Tests.{leb-true, leb-false}
+use Rattle.bitmap.specs.Sizes.{bitmapWords}
+use Rattle.model.specs.Sizes.{diskWords, bitmapAt, logAt}
+use Rattle.model.specs.Stores.{Store, writes, after, changes, logStores, commitStores, storesFor, changedFor}
+use Rattle.model.specs.Valid.{sameWords}
+use Rattle.model.specs.Disk.{lengthIn, diskBlocks, logLength, diskBitmap, diskOf, baseImage}
+use Rattle.model.proofs.Laws.Writes.{length-writes, words-same}
+use Rattle.model.proofs.Laws.StoreLists.{length-logStores, changed-stores}
+use Rattle.model.proofs.Laws.Changes.{changes-length}
+use Rattle.model.proofs.Laws.DiskParts.{disk-parts, disk-bitmap-length, disk-log-length}
+use Rattle.model.proofs.Laws.CommitLog.{CommitFrom, changes-from, commitDisk, commit-before, commit-after}
+use Rattle.disk_log.proofs.Laws.Tests.{and-right, same-append}
+use Rattle.disk_match.specs.Matching.{headIs, keptMatch, changedMatch, lengthAfter, checkpointedAfter}
+use Rattle.disk_match.proofs.Laws.Checkpointed.{checkpoint, checkpoint-changes}
+use Rattle.disk_match.proofs.Laws.LogWords.{log-matches}
+use Rattle.disk_match.proofs.Laws.Matching.{words-match}
+
+-- a disk compared part by part
+disk-same : (disk : List ℕ) (blocks p : ℕ) (words log : List ℕ) → length disk ≡ diskWords → length words ≡ bitmapWords
+    → sameWords disk (diskOf blocks p words log)
+    ≡ (headIs disk blocks p && (sameWords (diskBitmap disk) words && sameWords (drop logAt disk) log))
+unfolding sameWords lengthIn
+disk-same disk blocks p words log l m =
+    ap (λ (d : List ℕ). sameWords d (diskOf blocks p words log)) (disk-parts disk (omega arith))
+    ∙ ap (λ (t : Bool). eqb (diskBlocks disk) blocks && (eqb (logLength disk) p && t))
+    (same-append (diskBitmap disk) (drop logAt disk) words log (disk-bitmap-length disk l ∙ sym m))
+    ∙ sym (and-assoc (eqb (diskBlocks disk) blocks) (eqb (logLength disk) p) (sameWords (diskBitmap disk) words && sameWords (drop logAt disk) log))
+
+-- the disk after any number of a commit's stores but all, by its parts
+commit-parts : (blocks : ℕ) (sam log : List ℕ) (es : List Store) (done : ℕ) → CommitFrom sam log es → done < storesFor (length es)
+    → commitDisk blocks sam log es done
+    ≡ diskOf blocks (lengthAfter (length es) done) (writes (take (checkpointedAfter (length es) done) es) sam) (writes (take done (logStores 0 es)) log)
+unfolding writes
+commit-parts blocks sam log es done from h = go (leb done (2 * length es)) refl
+  where
+    d : ℕ
+    d = length es
+
+    go : (t : Bool) → leb done (2 * d) ≡ t → commitDisk blocks sam log es done
+        ≡ diskOf blocks (cond t 0 d) (writes (take (checkpointedAfter d done) es) sam) (writes (take done (logStores 0 es)) log)
+    go true e =
+        let none : done - (2 * d + 1) ≡ 0 = omega (arith, leb-true done (2 * d) e) in
+        commit-before blocks sam log es from done (leb-true done (2 * d) e) ∙ rw none
+    go false e =
+        let all : take done (logStores 0 es) ≡ logStores 0 es = take-all done (logStores 0 es) (omega (arith, leb-false done (2 * d) e, length-logStores 0 es)) in
+        commit-after blocks sam log es from done (leb-false done (2 * d) e) h ∙ rw all
+
+-- while a commit is stored: words 0 and 1, the bitmap words that stay, and those that change with the log's
+pub commit-tests : (blocks : ℕ) (disk sam new : List ℕ) (done due : ℕ) → length disk ≡ diskWords → length sam ≡ bitmapWords → length new ≡ bitmapWords
+    → due ≡ storesFor (length (changes sam new))
+    → done < due
+    → sameWords disk (after done (commitStores (changes sam new)) (baseImage blocks sam disk))
+    ≡ (headIs disk blocks (lengthAfter (changedFor due) done)
+    && keptMatch disk 0 sam new
+    && changedMatch disk done (checkpointedAfter (changedFor due) done) 0 0 sam new)
+commit-tests blocks disk sam new done due l s n d h =
+    ap (sameWords disk) (commit-parts blocks sam log es done (changes-from sam new log s (disk-log-length disk l)) (omega arith))
+    ∙ disk-same
+    disk
+    blocks
+    (lengthAfter (length es) done)
+    (writes (take checkpointed es) sam)
+    (writes (take done (logStores 0 es)) log)
+    l
+    (length-writes (take checkpointed es) sam ∙ s)
+    ∙ ap (λ (t : Bool). headIs disk blocks (lengthAfter (length es) done) && t) (sym words)
+    ∙ sym (and-assoc (headIs disk blocks (lengthAfter (length es) done)) (keptMatch disk 0 sam new) (changedMatch disk done checkpointed 0 0 sam new))
+    ∙ rw (d, changed-stores (length es))
+  where
+    log : List ℕ
+    log = drop logAt disk
+
+    es : List Store
+    es = changes sam new
+
+    checkpointed : ℕ
+    checkpointed = checkpointedAfter (length es) done
+
+    words : (keptMatch disk 0 sam new && changedMatch disk done checkpointed 0 0 sam new)
+        ≡ (sameWords (diskBitmap disk) (writes (take checkpointed es) sam) && sameWords log (writes (take done (logStores 0 es)) log))
+    words =
+        words-match disk done checkpointed 0 0 sam new (s ∙ sym n) (omega arith)
+        ∙ ap₂ _&&_
+        (ap₂
+        (λ (n : ℕ) (w : List ℕ). sameWords (take n (drop bitmapAt disk)) w)
+        s
+        (ap (λ (n : ℕ). checkpoint n sam new) (sub-zero checkpointed) ∙ sym (checkpoint-changes checkpointed sam new)))
+        (log-matches disk done 0 es (omega (arith, changes-length sam new))
+        ∙ ap (λ (n : ℕ). sameWords log (writes (take n (logStores 0 es)) log)) (sub-zero done))
+
+-- with nothing pending: words 0 and 1, and the bitmap. Its log words mean nothing
+pub settled-tests : (blocks : ℕ) (disk sam : List ℕ) → length disk ≡ diskWords → length sam ≡ bitmapWords
+    → sameWords disk (baseImage blocks sam disk) ≡ (headIs disk blocks 0 && sameWords (diskBitmap disk) sam)
+settled-tests blocks disk sam l s =
+    disk-same disk blocks 0 sam (drop logAt disk) l s
+    ∙ ap (λ (t : Bool). headIs disk blocks 0 && t) (and-right (sameWords (diskBitmap disk) sam) (words-same (drop logAt disk)))

@@ -1,0 +1,2 @@
+-- What the code that compares a disk checks, word by word.
+pub mod Matching

@@ -1,0 +1,2 @@
+-- What the next store is.
+pub mod Next
