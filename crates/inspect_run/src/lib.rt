@@ -2,19 +2,17 @@
 // It is a library so that several programs can be it, each with its own stored input and output.
 mod call;
 mod line;
-mod lines;
 mod next;
-mod show;
 
 ghost use mathlib.Core.Path.{_≡_};
 ghost use lib.ListN.{length};
 ghost use Rattle.printing.specs.Waits.{Waits};
-ghost use Rattle.inspect_run.specs.Reads.{kept};
+ghost use Rattle.inspect_lines.specs.Reads.{kept};
 use bench_line::MAX_LINES;
+use inspect_lines::Reader;
+use inspect_lines::next_line;
 use inspect_state::fixture::Fixture;
 use line::answer;
-use lines::Reader;
-use lines::next_line;
 use printing::flush;
 
 // Answers the lines of the input, and returns the end of what waits to be written.

@@ -2,8 +2,8 @@
 ghost use Rattle.printing.specs.Waits.{Waits};
 ghost use Rattle.inspect_state.specs.Sized.{Sized};
 use crate::call::call;
-use crate::show::put_fixture;
 use check::same;
+use inspect_show::put_fixture;
 use inspect_state::alter::alter;
 use inspect_state::fixture::Fixture;
 use inspect_state::fixture::Step;

@@ -7,7 +7,7 @@ use lib.Seq.{length-take-le}
 use Rattle.model.specs.Bench.{maxLines}
 use Rattle.printing.specs.Waits.{Waits}
 use Rattle.inspect_state.specs.Sized.{Sized}
-use Rattle.inspect_run.specs.Reads.{Reading, kept}
+use Rattle.inspect_lines.specs.Reads.{Reading, kept}
 use borrow.Author.Needs.{needs}
 use Rattle.inspect_run.proofs.answer_all.Statement.{statement}
 use Rattle.inspect_run.proofs.answer_all.Tie as tie

@@ -1,28 +1,28 @@
--- The measure is what is left of the words.
+-- The measure is what is left of the list.
 use Prim.Native.Nat.{_≤_, _-_}
 use lib.ListN.{length}
 use Rattle.printing.specs.Waits.{Waits}
 use borrow.Author.Needs.{needs}
-use Rattle.inspect_run.proofs.show.put_words.Statement.{statement}
-use Rattle.inspect_run.proofs.show.put_words.Tie as tie
+use Rattle.inspect_show.proofs.put_list.Statement.{statement}
+use Rattle.inspect_show.proofs.put_list.Tie as tie
 
 abbrev Inv-loop : tie.InvT-loop
-Inv-loop out₀ at words end₀ i₀ out end i = (i ≤ length words) × Waits out end
+Inv-loop out₀ at list end₀ i₀ out end i = (i ≤ length list) × Waits out end
 
 abbrev μ-loop : tie.MeasureT-loop
-μ-loop out₀ at words end₀ i₀ out end i = length words - i
+μ-loop out₀ at list end₀ i₀ out end i = length list - i
 
 loop-holds : tie.Need-loop-holds Inv-loop μ-loop
 loop-holds c = search needs
 
-mul-put-word : tie.Need-mul-put-word Inv-loop μ-loop
-mul-put-word c = search needs
+mul-put-block : tie.Need-mul-put-block Inv-loop μ-loop
+mul-put-block c = search needs
 
-shared-slice-read-put-word : tie.Need-shared-slice-read-put-word Inv-loop μ-loop
-shared-slice-read-put-word c = search needs
+shared-slice-read-put-block : tie.Need-shared-slice-read-put-block Inv-loop μ-loop
+shared-slice-read-put-block c = search needs
 
-put-word-requires : tie.Need-put-word-requires Inv-loop μ-loop
-put-word-requires c κs = search needs
+put-block-requires : tie.Need-put-block-requires Inv-loop μ-loop
+put-block-requires c κs = search needs
 
 add-i : tie.Need-add-i Inv-loop μ-loop
 add-i c = search needs
@@ -42,16 +42,16 @@ same-length c = search needs
 returns : tie.Need-returns Inv-loop μ-loop
 returns c = search needs
 
-pub put-words-spec : {M : Type 1} → statement M
-put-words-spec =
+pub put-list-spec : {M : Type 1} → statement M
+put-list-spec =
     tie.close
     (tie.spec
     Inv-loop
     μ-loop
     loop-holds
-    mul-put-word
-    shared-slice-read-put-word
-    put-word-requires
+    mul-put-block
+    shared-slice-read-put-block
+    put-block-requires
     add-i
     loop-less
     loop-again

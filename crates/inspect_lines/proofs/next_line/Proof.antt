@@ -1,10 +1,10 @@
 -- The turns fall.
 use mathlib.Core.Path.{_≡_}
 use lib.ListN.{length}
-use Rattle.inspect_run.specs.Reads.{Reading, kept}
+use Rattle.inspect_lines.specs.Reads.{Reading, kept}
 use borrow.Author.Needs.{needs}
-use Rattle.inspect_run.proofs.lines.next_line.Statement.{statement}
-use Rattle.inspect_run.proofs.lines.next_line.Tie as tie
+use Rattle.inspect_lines.proofs.next_line.Statement.{statement}
+use Rattle.inspect_lines.proofs.next_line.Tie as tie
 
 abbrev Inv-loop : tie.InvT-loop
 Inv-loop input₀ line₀ state₀ turns₀ input line state turns = (length input ≡ length input₀) × (length line ≡ kept) × Reading (length input) state

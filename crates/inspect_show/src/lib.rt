@@ -174,7 +174,7 @@ fn put_places(out: &mut [u8], at: usize, fixture: Fixture) -> usize
 }
 
 // The whole fixture.
-pub(crate) fn put_fixture(out: &mut [u8], at: usize, fixture: Fixture) -> usize
+pub fn put_fixture(out: &mut [u8], at: usize, fixture: Fixture) -> usize
     requires { ⌜ Waits (now out) at ⌝ }
     requires { ⌜ Sized fixture ⌝ }
     ensures { λ r. ⌜ Waits (now (out .exit)) r ⌝ }

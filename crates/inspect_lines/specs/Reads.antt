@@ -1,6 +1,6 @@
 -- How far was read.
 use Prim.Native.Nat.{ℕ, _≤_}
-use Rattle.inspect_run.specs.declared.lines.Reader.{Reader}
+use Rattle.inspect_lines.specs.declared.Reader.{Reader}
 
 -- the bytes kept of a line
 abbrev pub kept : ℕ

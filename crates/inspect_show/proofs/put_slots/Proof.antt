@@ -3,8 +3,8 @@ use Prim.Native.Nat.{_≤_, _-_}
 use Rattle.bitmap.specs.Sizes.{slotCount}
 use Rattle.printing.specs.Waits.{Waits}
 use borrow.Author.Needs.{needs}
-use Rattle.inspect_run.proofs.show.put_slots.Statement.{statement}
-use Rattle.inspect_run.proofs.show.put_slots.Tie as tie
+use Rattle.inspect_show.proofs.put_slots.Statement.{statement}
+use Rattle.inspect_show.proofs.put_slots.Tie as tie
 
 abbrev Inv-loop : tie.InvT-loop
 Inv-loop out₀ at memory end₀ s₀ out end s = (s ≤ slotCount) × Waits out end

@@ -1,7 +1,7 @@
-// Input cut into lines.
+// The input of `inspect` cut into lines.
 ghost use mathlib.Core.Path.{_≡_};
 ghost use lib.ListN.{length};
-ghost use Rattle.inspect_run.specs.Reads.{Reading, kept};
+ghost use Rattle.inspect_lines.specs.Reads.{Reading, kept};
 use libc::STDIN_FILENO;
 
 // The bytes kept of a line: one more than a line may have.
@@ -9,7 +9,7 @@ const KEPT: usize = 65;
 
 // Where reading stands: a place in a piece of input and the piece's end, the bytes kept of a line, whether there is a line,
 // and whether more of it is to be read.
-pub(crate) struct Reader {
+pub struct Reader {
     pub next: usize,
     pub end: usize,
     pub len: usize,
@@ -19,7 +19,7 @@ pub(crate) struct Reader {
 
 impl Reader {
     // Before the first line.
-    pub(crate) fn new() -> Reader
+    pub fn new() -> Reader
         ensures { λ r. ⌜ Reading 0 r ⌝ }
     {
         Reader {
@@ -106,7 +106,7 @@ fn read_on(input: &mut [u8], reader: Reader, line: &mut [u8]) -> Reader
 }
 
 // Reads the next line. A proved loop has to end, so it counts its turns down from a number that no input uses up.
-pub(crate) fn next_line(input: &mut [u8], reader: Reader, line: &mut [u8]) -> Reader
+pub fn next_line(input: &mut [u8], reader: Reader, line: &mut [u8]) -> Reader
     requires { ⌜ Reading (length (now input)) reader ⌝ }
     requires { ⌜ length (now line) ≡ kept ⌝ }
     ensures { λ r. ⌜ Reading (length (now (input .exit))) r ⌝ }

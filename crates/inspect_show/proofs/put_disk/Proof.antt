@@ -3,8 +3,8 @@ use mathlib.Core.Path.{sym}
 use lib.Seq.{length-take-le}
 use Rattle.inspect_state.proofs.Laws.Shape.{Parts, parts}
 use borrow.Author.Needs.{needs}
-use Rattle.inspect_run.proofs.show.put_disk.Statement.{statement}
-use Rattle.inspect_run.proofs.show.put_disk.Tie as tie
+use Rattle.inspect_show.proofs.put_disk.Statement.{statement}
+use Rattle.inspect_show.proofs.put_disk.Tie as tie
 
 abbrev start : tie.After-put-words-arg → tie.Start
 start c = c .before .before .before .before .before .before .before .before

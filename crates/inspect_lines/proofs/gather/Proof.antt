@@ -3,9 +3,9 @@ use Prim.Native.Nat.{_≤_, _-_}
 use mathlib.Core.Path.{_≡_}
 use lib.ListN.{length}
 use borrow.Author.Needs.{needs}
-use Rattle.inspect_run.specs.Reads.{kept}
-use Rattle.inspect_run.proofs.lines.gather.Statement.{statement}
-use Rattle.inspect_run.proofs.lines.gather.Tie as tie
+use Rattle.inspect_lines.specs.Reads.{kept}
+use Rattle.inspect_lines.proofs.gather.Statement.{statement}
+use Rattle.inspect_lines.proofs.gather.Tie as tie
 
 abbrev Inv-loop : tie.InvT-loop
 Inv-loop input line₀ end at₀ len₀ line at len = (at ≤ end) × (end ≤ length input) × (len ≤ kept) × (length line ≡ kept)

@@ -1,0 +1,2 @@
+-- Where reading stands.
+pub mod Reads

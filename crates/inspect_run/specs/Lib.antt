@@ -1,2 +1,0 @@
--- Bounds of the program's own counters.
-pub mod Reads
