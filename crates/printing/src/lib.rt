@@ -1,4 +1,6 @@
 // Output that is put together in a large piece, and written when the piece is nearly full.
+pub mod runs;
+
 ghost use Prim.Native.Nat.{_+_, _≤_};
 ghost use Rattle.printing.specs.Waits.{Waits, piece, room};
 use libc::STDOUT_FILENO;

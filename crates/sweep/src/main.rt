@@ -1,7 +1,6 @@
 // The sweep: a crash after each store of the longest commit, and again after each store of the recovery that follows
 // (docs/TEST-LINES.md).
 mod longest;
-mod runs;
 
 ghost use Rattle.printing.specs.Waits.{Waits};
 use longest::longest_commit;
@@ -11,7 +10,7 @@ use printing::end_line;
 use printing::flush;
 use printing::put;
 use printing::put_field;
-use runs::put_runs;
+use printing::runs::put_runs;
 use store::store;
 use volume::open::open;
 

@@ -1,6 +1,6 @@
 // Words printed as runs of equal ones.
 ghost use Rattle.printing.specs.Waits.{Waits};
-use printing::put_field;
+use crate::put_field;
 
 // Whether a run of a word has ended at an index: there is no word, or another one.
 fn ended(words: &[u32], at: usize, word: u32) -> bool {
@@ -20,7 +20,7 @@ fn put_run(out: &mut [u8], at: usize, count: usize, word: u32) -> usize
 }
 
 // Puts all runs, lowest first.
-pub(crate) fn put_runs(out: &mut [u8], at: usize, words: &[u32]) -> usize
+pub fn put_runs(out: &mut [u8], at: usize, words: &[u32]) -> usize
     requires { ⌜ Waits (now out) at ⌝ }
     ensures { λ r. ⌜ Waits (now (out .exit)) r ⌝ }
 {

@@ -2,9 +2,9 @@
 use Prim.Native.Nat.{_≤_, _-_}
 use lib.ListN.{length}
 use borrow.Author.Needs.{needs}
 use Rattle.printing.specs.Waits.{Waits}
-use Rattle.sweep.proofs.runs.put_runs.Statement.{statement}
-use Rattle.sweep.proofs.runs.put_runs.Tie as tie
+use Rattle.printing.proofs.runs.put_runs.Statement.{statement}
+use Rattle.printing.proofs.runs.put_runs.Tie as tie
 
 abbrev Inv-loop : tie.InvT-loop
 Inv-loop out₀ at words end₀ first₀ i₀ out end first i = (first ≤ i) × (i ≤ length words) × Waits out end
