@@ -1,8 +1,6 @@
--- Laws of `valid`, and of the words by which it is tested.
+-- Laws of `valid`, and of what is left while it is tested.
 pub mod Slots
-pub mod Differ
-pub mod Words
-pub mod Taking
+pub mod LeftBits
 pub mod Passed
 pub mod Right
 pub mod Maps

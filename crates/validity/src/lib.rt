@@ -13,12 +13,11 @@ use model::memory::Pending;
 use model::memory::Slot;
 use pending::commit_valid;
 use pending::recovery_valid;
-use touch::differences;
-use touch::take_slot;
+use touches::touch::differences;
+use touches::touch::take_slot;
 
 pub mod bits;
 pub mod pending;
-pub mod touch;
 
 // Whether the bitmaps are those of a valid memory. No slot's bitmap is looked at for bits from the block count on: they
 // would be touches that aren't left.

@@ -21,7 +21,7 @@ use Rattle.model.proofs.Laws.DiskParts.{inRange-low, inRange-high}
 use Rattle.model.proofs.Laws.Valid.{ValidParts, valid-parts, parts-valid, touchesBlock, touches-one, noBits-empty}
 use Rattle.model.proofs.Laws.Touches.{one, differs, active-valid}
 use Rattle.model.proofs.Laws.Shape.{Shaped}
-use Rattle.validity.specs.Left.{SlotTaken}
+use Rattle.touches.specs.Left.{SlotTaken}
 use Rattle.validity.proofs.Laws.Slots.{bool-ext, not-true-false, allSlots-all}
 use Rattle.validity.proofs.Laws.Passed.{Passed}
 use Rattle.validity.proofs.Laws.Right.{no-differs, passed-all, slot-right, left-none}

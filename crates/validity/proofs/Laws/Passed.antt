@@ -20,9 +20,9 @@ use Rattle.model.proofs.Laws.Writes.{same-words}
 use Rattle.model.proofs.Laws.Valid.{touchesBlock}
 use Rattle.model.proofs.Laws.Touches.{one, differs}
 use Rattle.model.proofs.Laws.Shape.{Shaped}
-use Rattle.validity.specs.Left.{differ, SlotTaken}
-use Rattle.validity.proofs.Laws.Differ.{differ-is, bit-differ}
-use Rattle.validity.proofs.Laws.Words.{left-bits}
+use Rattle.touches.specs.Left.{differ, SlotTaken}
+use Rattle.touches.proofs.Laws.Differ.{differ-is}
+use Rattle.validity.proofs.Laws.LeftBits.{bit-differ, left-bits}
 
 -- a slot more, in the order in which the slots are gone over
 touches-more : (memory : Memory) (b : ℕ) (slots : List Slot) (slot : Slot)
@@ -48,6 +48,11 @@ passed-none memory shape =
       counted = λ b. omega (arith, ap one (bit-differ (memory .sam .words) (memory .com .words) (shape .sam) (shape .com) b));
       empty = λ k l. absurd (not-suc-le-zero l);
     }
+
+-- the same slot, under another name
+pub taken-same : {slot other : Slot} {r t : Bool} (left sam left' : List ℕ) → slot ≡ other → r ≡ t
+    → SlotTaken (slot .state) left sam (slot .tam .words) r left' → SlotTaken (other .state) left sam (other .tam .words) t left'
+taken-same left sam left' e f taken = rw (← e, ← f) taken
 
 -- a touch taken from what is left
 taken-one : (l t : Bool) → (t ≡ true → l ≡ true) → one t + one (xor l t) ≡ one l

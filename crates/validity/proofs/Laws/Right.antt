@@ -18,9 +18,9 @@ use Rattle.model.proofs.Laws.Writes.{and-second, words-same}
 use Rattle.model.proofs.Laws.Valid.{ValidParts, allSlots-at, touches-at, touchesBlock, idle-valid, slot-below}
 use Rattle.model.proofs.Laws.Touches.{one, differs}
 use Rattle.model.proofs.Laws.Shape.{Shaped, empty-is}
-use Rattle.validity.specs.Left.{differ, SlotTaken}
-use Rattle.validity.proofs.Laws.Differ.{differ-is, bit-differ}
-use Rattle.validity.proofs.Laws.Words.{bits-left}
+use Rattle.touches.specs.Left.{differ, SlotTaken}
+use Rattle.touches.proofs.Laws.Differ.{differ-is}
+use Rattle.validity.proofs.Laws.LeftBits.{bit-differ, bits-left}
 use Rattle.validity.proofs.Laws.Passed.{Passed}
 
 one-true : (t : Bool) → 1 ≤ one t → t ≡ true

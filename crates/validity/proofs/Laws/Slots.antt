@@ -1,10 +1,9 @@
--- Tests: of a callee's answer, and of every slot. And the shape of a memory that is given by its parts.
+-- Bools that are one, and a test of every slot. And the shape of a memory that is given by its parts.
 use Prim.Native.Nat.{ℕ, suc, _<_, suc-le-suc, zero-le}
-use mathlib.Core.Path.{_≡_, refl, sym, _∙_}
-use mathlib.Core.Bool.{Bool, true, false, not}
+use mathlib.Core.Path.{_≡_, refl, sym}
+use mathlib.Core.Bool.{Bool, true, false}
 use mathlib.Core.List.{List, [], _∷_}
 use lib.ListN.{length, getD}
-use borrow.Author.Tests.{not-true, not-false}
 use Rattle.bitmap.specs.Bits.{IsBitmap}
 use Rattle.model.specs.declared.memory.Slot.{Slot}
 use Rattle.model.specs.declared.memory.Pending.{Pending}
@@ -23,13 +22,6 @@ bool-ext false false f g = refl
 pub not-true-false : (a : Bool) → (a ≡ true → ⊥) → false ≡ a
 not-true-false true f = absurd (f refl)
 not-true-false false f = refl
-
--- what a callee's answer says of its test, where `if !answer` was taken and where it was left
-pub taken-false : (r t : Bool) → r ≡ t → not r ≡ true → t ≡ false
-taken-false r t e h = sym e ∙ not-true r h
-
-pub left-true : (r t : Bool) → r ≡ t → not r ≡ false → t ≡ true
-left-true r t e h = sym e ∙ not-false r h
 
 -- a test that holds of each slot holds of all
 pub allSlots-all : (test : Slot → Bool) (slots : List Slot) → ((s : ℕ) → s < length slots → test (getD slots s idleSlot) ≡ true)

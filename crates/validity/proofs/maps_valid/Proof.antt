@@ -11,10 +11,10 @@ use Rattle.model.specs.declared.memory.Pending.{Pending}
 use Rattle.model.specs.declared.memory.Memory.{Memory}
 use Rattle.model.specs.Memory.{bitmap, memoryOf, slotAt}
 use Rattle.model.proofs.Laws.Shape.{Shaped, slots-shaped, slot-read}
-use Rattle.validity.specs.Left.{SlotTaken}
-use Rattle.validity.proofs.Laws.Slots.{taken-false, left-true, parts-shaped}
-use Rattle.validity.proofs.Laws.Taking.{taken-same}
-use Rattle.validity.proofs.Laws.Passed.{Passed, passed-none, passed-more}
+use Rattle.touches.specs.Left.{SlotTaken}
+use Rattle.touches.proofs.Laws.Answers.{taken-false, left-true}
+use Rattle.validity.proofs.Laws.Slots.{parts-shaped}
+use Rattle.validity.proofs.Laws.Passed.{Passed, passed-none, taken-same, passed-more}
 use Rattle.validity.proofs.Laws.Maps.{volumeValid, volume-wrong, slot-wrong, left-decides}
 use Rattle.validity.proofs.maps_valid.Statement.{statement}
 use Rattle.validity.proofs.maps_valid.Tie as tie

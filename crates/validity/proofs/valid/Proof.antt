@@ -10,7 +10,8 @@ use Rattle.model.specs.Pending.{ownerOf}
 use Rattle.model.specs.Valid.{valid}
 use Rattle.model.proofs.Laws.Valid.{valid-parts}
 use Rattle.model.proofs.Laws.Shape.{Shaped, slots-shaped}
-use Rattle.validity.proofs.Laws.Slots.{taken-false, left-true, parts-shaped}
+use Rattle.touches.proofs.Laws.Answers.{taken-false, left-true}
+use Rattle.validity.proofs.Laws.Slots.{parts-shaped}
 use Rattle.validity.proofs.Laws.Checked.{maps-wrong, checked-nothing, checked-past, checked-commit, checked-recovery}
 use Rattle.validity.proofs.valid.Statement.{statement}
 use Rattle.validity.proofs.valid.Tie as tie

@@ -2,9 +2,9 @@
 use mathlib.Core.Path.{refl, sym, _∙_}
 use mathlib.Core.Bool.{false≢true}
 use borrow.Author.Needs.{needs}
-use Rattle.validity.proofs.Laws.Slots.{taken-false, left-true}
-use Rattle.validity.proofs.touch.take_slot.Statement.{statement}
-use Rattle.validity.proofs.touch.take_slot.Tie as tie
+use Rattle.touches.proofs.Laws.Answers.{taken-false, left-true}
+use Rattle.touches.proofs.touch.take_slot.Statement.{statement}
+use Rattle.touches.proofs.touch.take_slot.Tie as tie
 
 is-active-requires : tie.Need-is-active-requires
 is-active-requires c κs = search needs

@@ -3,10 +3,10 @@ use Prim.Native.Nat.{_-_}
 use borrow.Author.Needs.{needs}
 use Rattle.bitmap.specs.Sizes.{bitmapWords}
 use Rattle.bitmap.specs.Bits.{IsBitmap}
-use Rattle.validity.specs.Left.{differ}
-use Rattle.validity.proofs.Laws.Taking.{Taking, taking-none, taking-more, taking-all}
-use Rattle.validity.proofs.touch.take_touched.Statement.{statement}
-use Rattle.validity.proofs.touch.take_touched.Tie as tie
+use Rattle.touches.specs.Left.{differ}
+use Rattle.touches.proofs.Laws.Taking.{Taking, taking-none, taking-more, taking-all}
+use Rattle.touches.proofs.touch.take_touched.Statement.{statement}
+use Rattle.touches.proofs.touch.take_touched.Tie as tie
 
 abbrev Inv-loop : tie.InvT-loop
 Inv-loop left₀ sam tam wrong₀ k₀ left wrong k = Taking left₀ (differ tam sam) left wrong k

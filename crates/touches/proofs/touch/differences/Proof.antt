@@ -6,10 +6,10 @@ use borrow.Author.Needs.{needs}
 use Rattle.bitmap.specs.Sizes.{bitmapWords}
 use Rattle.bitmap.specs.Bits.{IsBitmap}
 use Rattle.bitops.proofs.Laws.Overwrite.{Overwritten}
-use Rattle.validity.specs.Left.{differ}
-use Rattle.validity.proofs.Laws.Words.{differ-step, differ-all}
-use Rattle.validity.proofs.touch.differences.Statement.{statement}
-use Rattle.validity.proofs.touch.differences.Tie as tie
+use Rattle.touches.specs.Left.{differ}
+use Rattle.touches.proofs.Laws.Words.{differ-step, differ-all}
+use Rattle.touches.proofs.touch.differences.Statement.{statement}
+use Rattle.touches.proofs.touch.differences.Tie as tie
 
 abbrev Inv-loop : tie.InvT-loop
 Inv-loop left₀ sam «com» k₀ left k = (k ≤ bitmapWords) × Overwritten k (differ sam «com») left₀ left

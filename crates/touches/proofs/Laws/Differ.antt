@@ -1,15 +1,13 @@
--- The blocks at which two bitmaps differ: a bitmap, by its words and its bits.
-use Prim.Native.Nat.{ℕ, zero, suc, _/_, _%_}
+-- The blocks at which two bitmaps differ: a bitmap, by its words.
+use Prim.Native.Nat.{ℕ, zero, suc}
 use native.Mathlib.Omega.{arith}
 use mathlib.Core.Path.{_≡_, refl, sym, ap, _∙_}
-use mathlib.Core.Bool.{xor}
 use mathlib.Core.List.{List, [], _∷_}
 use lib.ListN.{length, getD}
 use lib.Bits.{bitXor, xor-lt}
 use Rattle.bitmap.specs.Sizes.{wordBits, bitmapWords}
-use Rattle.bitmap.specs.Bits.{isSet, bit, IsBitmap}
-use Rattle.bitmap.proofs.Laws.Word.{isSet-xor}
-use Rattle.validity.specs.Left.{differ}
+use Rattle.bitmap.specs.Bits.{IsBitmap}
+use Rattle.touches.specs.Left.{differ}
 
 length-differ : (us vs : List ℕ) → length vs ≡ length us → length (differ us vs) ≡ length us
 unfolding differ
@@ -35,8 +33,3 @@ module _ (u v : List ℕ) (hu : IsBitmap u) (hv : IsBitmap v) where
   pub differ-is : IsBitmap (differ u v)
   differ-is =
       record { size = differ-size; small = λ k. rw (differ-at k) (xor-lt wordBits (getD u k 0) (getD v k 0) (hu .small k) (hv .small k)) }
-
-  pub bit-differ : (b : ℕ) → bit (differ u v) b ≡ xor (bit u b) (bit v b)
-  unfolding bit
-  bit-differ b =
-      ap (λ (w : ℕ). isSet w (b % 32)) (differ-at (b / 32)) ∙ isSet-xor (getD u (b / 32) 0) (getD v (b / 32) 0) (b % 32)

@@ -2,7 +2,6 @@
 use Prim.Native.Nat.{ℕ, _+_, _-_, _^_, _≤_, _<_}
 use native.Mathlib.Omega.{arith}
 use mathlib.Core.Path.{_≡_, refl, sym, ap₂, _∙_}
-use mathlib.Core.Bool.{Bool}
 use mathlib.Core.List.{List}
 use lib.ListN.{getD, set}
 use lib.Bits.{bitAnd, bitOr, bitXor}
@@ -11,10 +10,9 @@ use Rattle.bitmap.specs.Sizes.{wordBits, bitmapWords}
 use Rattle.bitmap.specs.Bits.{IsBitmap}
 use Rattle.bitmap.specs.Blocks.{allBelow}
 use Rattle.bitops.proofs.Laws.Overwrite.{Overwritten}
-use Rattle.model.specs.declared.memory.Slot.{Slot}
-use Rattle.validity.specs.Left.{differ, wordLeft, allLeft, TouchedTaken, SlotTaken}
-use Rattle.validity.proofs.Laws.Differ.{differ-is, differ-at}
-use Rattle.validity.proofs.Laws.Words.{differ-next, differ-step, differ-all, wrong-more}
+use Rattle.touches.specs.Left.{differ, wordLeft, allLeft, TouchedTaken}
+use Rattle.touches.proofs.Laws.Differ.{differ-is, differ-at}
+use Rattle.touches.proofs.Laws.Words.{differ-next, differ-step, differ-all, wrong-more}
 
 -- the touched blocks of these words are taken, and `wrong` has those that weren't left
 pub record Taking (old touched left : List ℕ) (wrong k : ℕ) : Type 0 where
@@ -54,8 +52,3 @@ module _ (old sam tam left : List ℕ) (wrong k : ℕ) (oldIs : IsBitmap old) (s
         answer = rw all at (so .found);
         rest = differ-all old (differ tam sam) old k oldIs touchedIs (oldIs .size) (so .written) h;
       }
-
--- the same slot, under another name
-pub taken-same : {slot other : Slot} {r t : Bool} (left sam left' : List ℕ) → slot ≡ other → r ≡ t
-    → SlotTaken (slot .state) left sam (slot .tam .words) r left' → SlotTaken (other .state) left sam (other .tam .words) t left'
-taken-same left sam left' e f taken = rw (← e, ← f) taken

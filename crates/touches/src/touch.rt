@@ -3,7 +3,7 @@ ghost use mathlib.Core.Path.{_≡_};
 ghost use lib.ListN.{length};
 ghost use Rattle.bitmap.specs.Bits.{IsBitmap};
 ghost use Rattle.bitmap.specs.Sizes.{bitmapWords};
-ghost use Rattle.validity.specs.Left.{differ, TouchedTaken, SlotTaken};
+ghost use Rattle.touches.specs.Left.{differ, TouchedTaken, SlotTaken};
 use bitmap::Bitmap;
 use bitops::compare::is_empty;
 use model::memory::SlotState;
