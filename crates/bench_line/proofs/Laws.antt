@@ -4,6 +4,3 @@ pub mod Digits
 pub mod Fields
 pub mod Ops
 pub mod Line
-pub mod Put
-pub mod Decimal
-pub mod Answer

@@ -1,5 +1,4 @@
--- What the contracts of this crate's functions cite. The line and its answer are defined in the crate model.
+-- What the contracts of this crate's functions cite. The line is defined in the crate model.
 pub mod Prefix
 pub mod Number
 pub mod Ops
-pub mod Put

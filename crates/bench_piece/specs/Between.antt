@@ -5,7 +5,7 @@ use mathlib.Core.List.{List}
 use lib.ListN.{length, take}
 use Rattle.model.specs.Memory.{zeroMemory}
 use Rattle.model.specs.Bench.{maxLines}
-use Rattle.bench_line.specs.Put.{maxAnswer}
+use Rattle.bench_answer.specs.Put.{maxAnswer}
 use Rattle.bench_step.specs.Cut.{NoEnd}
 use Rattle.bench_step.specs.Output.{State, stateOf}
 use Rattle.bench_piece.specs.declared.piece.Run.{Run}

@@ -5,7 +5,7 @@ use mathlib.Core.List.{List, [], _∷_}
 use lib.ListN.{length, take}
 use Rattle.model.specs.Line.{newline}
 use Rattle.model.specs.Bench.{maxLines}
-use Rattle.bench_line.specs.Put.{maxAnswer}
+use Rattle.bench_answer.specs.Put.{maxAnswer}
 use Rattle.bench_step.specs.declared.lines.Lines.{Lines}
 use Rattle.bench_step.specs.Output.{State, Leads, allOf, stateOf}
 use Rattle.bench_piece.specs.declared.piece.Piece.{Piece}

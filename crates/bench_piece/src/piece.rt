@@ -6,7 +6,7 @@ ghost use Prim.Native.Nat.{suc, _+_, _*_, _≤_};
 ghost use lib.Dec.{leb, ltb};
 ghost use lib.ListN.{length, take};
 ghost use Rattle.model.specs.Bench.{maxLines};
-ghost use Rattle.bench_line.specs.Put.{maxAnswer};
+ghost use Rattle.bench_answer.specs.Put.{maxAnswer};
 ghost use Rattle.bench_step.specs.Output.{stateOf};
 ghost use Rattle.bench_piece.specs.Keep.{keptRoom};
 ghost use Rattle.bench_piece.specs.Between.{Between, Room, runState, begun};

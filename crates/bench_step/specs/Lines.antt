@@ -4,7 +4,7 @@ use mathlib.Core.List.{List, []}
 use lib.ListN.{length, take, drop}
 use Rattle.model.specs.declared.memory.Memory.{Memory}
 use Rattle.model.specs.Bench.{maxLines}
-use Rattle.bench_line.specs.Put.{maxAnswer}
+use Rattle.bench_answer.specs.Put.{maxAnswer}
 use Rattle.bench_step.specs.declared.lines.Lines.{Lines}
 use Rattle.bench_step.specs.Cut.{NoEnd}
 use Rattle.bench_step.specs.Output.{Leads, stateOf}

@@ -2,12 +2,12 @@
 ghost use Prim.Native.Nat.{suc, _+_, _*_, _≤_};
 ghost use lib.ListN.{length};
 ghost use Rattle.model.specs.Bench.{maxLines};
-ghost use Rattle.bench_line.specs.Put.{maxAnswer};
+ghost use Rattle.bench_answer.specs.Put.{maxAnswer};
 ghost use Rattle.bench_step.specs.Lines.{Answered};
 use crate::cut::next_end;
 use allocate::allocate;
+use bench_answer::print_answer;
 use bench_line::parse;
-use bench_line::print_answer;
 use commit::commit;
 use deallocate::deallocate;
 use model::error::Error;

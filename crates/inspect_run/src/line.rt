@@ -34,7 +34,7 @@ fn put_answer(out: &mut [u8], at: usize, number: u32, answer: u32, value: u32) -
     ensures { λ r. ⌜ Waits (now (out .exit)) r ⌝ }
 {
     let next = place(out, at);
-    bench_line::print_answer(out, next, number, answer, value)
+    bench_answer::print_answer(out, next, number, answer, value)
 }
 
 // Answers a line, and shows the fixture if it asks for it.

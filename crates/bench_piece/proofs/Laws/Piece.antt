@@ -8,7 +8,7 @@ use native.Mathlib.Omega.{arith}
 use lib.ListN.{length, take, drop, length-drop, length-take, take-append-drop}
 use lib.Seq.{length-take-le, take-all, take-length}
 use Rattle.model.specs.Line.{newline}
-use Rattle.bench_line.specs.Put.{maxAnswer}
+use Rattle.bench_answer.specs.Put.{maxAnswer}
 use Rattle.bench_step.specs.declared.lines.Lines.{Lines}
 use Rattle.bench_step.specs.Cut.{NoEnd, EndAt}
 use Rattle.bench_step.specs.Output.{Leads, stateOf}

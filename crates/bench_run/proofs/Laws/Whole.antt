@@ -11,7 +11,7 @@ use borrow.Author.Tests.{leb-false, ltb-true, ltb-false}
 use Rattle.model.specs.declared.memory.Memory.{Memory}
 use Rattle.model.specs.Sizes.{diskWords}
 use Rattle.model.specs.Bench.{benchStart, benchOf, benchOutput, maxLines}
-use Rattle.bench_line.specs.Put.{maxAnswer}
+use Rattle.bench_answer.specs.Put.{maxAnswer}
 use Rattle.bench_step.specs.Output.{State, Leads, allOf, outputOf, stateOf}
 use Rattle.bench_step.proofs.Laws.Output.{output-is, output-past}
 use Rattle.bench_piece.specs.declared.piece.Run.{Run}

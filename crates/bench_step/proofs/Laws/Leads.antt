@@ -11,7 +11,7 @@ use borrow.Author.Tests.{leb-true, leb-false}
 use Rattle.model.specs.declared.memory.Memory.{Memory}
 use Rattle.model.specs.Line.{newline, parseLine, answerLine}
 use Rattle.model.specs.Bench.{Bench, benchOf, benchStep, maxLines}
-use Rattle.bench_line.specs.Put.{Put}
+use Rattle.bench_answer.specs.Put.{Put}
 use Rattle.bench_step.specs.Cut.{NoEnd}
 use Rattle.bench_step.specs.Output.{State, Leads, allOf, outputOf, stateOf}
 use Rattle.bench_step.proofs.Laws.Output.{output-past, output-line, output-skip, output-kept}

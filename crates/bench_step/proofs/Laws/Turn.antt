@@ -10,8 +10,8 @@ use mir.Val.{Fits}
 use Rattle.model.specs.declared.memory.Memory.{Memory}
 use Rattle.model.specs.Line.{newline, parseLine, answerLine}
 use Rattle.model.specs.Bench.{benchOf, benchStep, maxLines}
-use Rattle.bench_line.specs.Put.{Put, maxAnswer}
-use Rattle.bench_line.proofs.Laws.Answer.{answer-length}
+use Rattle.bench_answer.specs.Put.{Put, maxAnswer}
+use Rattle.bench_answer.proofs.Laws.Answer.{answer-length}
 use Rattle.bench_step.specs.Cut.{NoEnd, EndAt, NextEnd}
 use Rattle.bench_step.specs.Output.{State, Leads, allOf, stateOf}
 use Rattle.bench_step.specs.Lines.{Answered}

@@ -1,6 +1,6 @@
 -- An answer line needs no more than its room.
 use native.Mathlib.Omega.{arith}
-use Rattle.bench_line.proofs.Laws.Answer.{answer-length}
+use Rattle.bench_answer.proofs.Laws.Answer.{answer-length}
 use borrow.Author.Needs.{needs}
 use Rattle.inspect_run.proofs.line.put_answer.Statement.{statement}
 use Rattle.inspect_run.proofs.line.put_answer.Tie as tie

@@ -3,7 +3,7 @@ ghost use Prim.Native.Nat.{_+_, _≤_};
 ghost use mathlib.Core.List.{_++_};
 ghost use lib.ListN.{length};
 ghost use Rattle.model.specs.Line.{decimal};
-ghost use Rattle.bench_line.specs.Put.{Put, maxDecimal};
+ghost use Rattle.bench_answer.specs.Put.{Put, maxDecimal};
 
 // Puts word into out from index at on, and returns the index after it. The rest of out is unchanged.
 pub(crate) fn put_bytes(out: &mut [u8], at: usize, word: &[u8]) -> usize

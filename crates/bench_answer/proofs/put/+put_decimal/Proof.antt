@@ -4,14 +4,14 @@ use mathlib.Core.Path.{_≡_}
 use native.Mathlib.Omega.{arith}
 use lib.ListN.{length, length-set}
 use Rattle.model.specs.Line.{decimal}
-use Rattle.bench_line.proofs.Laws.Decimal.{digit-length, digits-length, put-digit, put-digits}
+use Rattle.bench_answer.proofs.Laws.Decimal.{digit-length, digits-length, put-digit, put-digits}
 use borrow.Fn.Kinds.{In}
 use borrow.Fn.PlainCycle.{Measures, is, falls, and}
-use Rattle.bench_line.proofs.put.put_decimal.Reads as put-decimal
-use Rattle.bench_line.proofs.put.put_decimal.Kinds as put-decimal-kinds
-use Rattle.bench_line.proofs.put.+put_decimal.Lts-put_decimal as put-decimal-lts
-use Rattle.bench_line.proofs.put.+put_decimal.{statement}
-use Rattle.bench_line.proofs.put.+put_decimal.Tie.{close}
+use Rattle.bench_answer.proofs.put.put_decimal.Reads as put-decimal
+use Rattle.bench_answer.proofs.put.put_decimal.Kinds as put-decimal-kinds
+use Rattle.bench_answer.proofs.put.+put_decimal.Lts-put_decimal as put-decimal-lts
+use Rattle.bench_answer.proofs.put.+put_decimal.{statement}
+use Rattle.bench_answer.proofs.put.+put_decimal.Tie.{close}
 
 abbrev μ-put-decimal : Measures 1 put-decimal-kinds.ps ℕ
 μ-put-decimal κs a = let numbers = a .1 in numbers .1 .0

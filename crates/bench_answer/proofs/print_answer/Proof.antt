@@ -2,9 +2,9 @@
 use native.Mathlib.Omega.{arith}
 use borrow.Author.Needs.{needs}
 use Rattle.model.specs.Line.{callField, answerField, valueField}
-use Rattle.bench_line.proofs.Laws.Answer.{field-length, put-answer}
-use Rattle.bench_line.proofs.print_answer.Statement.{statement}
-use Rattle.bench_line.proofs.print_answer.Tie as tie
+use Rattle.bench_answer.proofs.Laws.Answer.{field-length, put-answer}
+use Rattle.bench_answer.proofs.print_answer.Statement.{statement}
+use Rattle.bench_answer.proofs.print_answer.Tie as tie
 
 -- ---- what is known on the way
 

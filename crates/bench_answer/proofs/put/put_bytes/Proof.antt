@@ -6,9 +6,9 @@ use native.Mathlib.Omega.{arith}
 use native.Mathlib.Numerals.{add-one}
 use lib.ListN.{length, getD, set, length-set}
 use lib.Seq.{paste, paste-zero, paste-suc}
-use Rattle.bench_line.proofs.Laws.Put.{put-paste}
-use Rattle.bench_line.proofs.put.put_bytes.Statement.{statement}
-use Rattle.bench_line.proofs.put.put_bytes.Tie as tie
+use Rattle.bench_answer.proofs.Laws.Put.{put-paste}
+use Rattle.bench_answer.proofs.put.put_bytes.Statement.{statement}
+use Rattle.bench_answer.proofs.put.put_bytes.Tie as tie
 
 abbrev Inv-loop : tie.InvT-loop
 Inv-loop out₀ at word i₀ out i = (i ≤ length word) × (out ≡ paste out₀ at word i) × (length out ≡ length out₀)

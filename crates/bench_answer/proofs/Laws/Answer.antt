@@ -5,9 +5,9 @@ use mathlib.Core.List.{List, [], _∷_, _++_, append-assoc}
 use native.Mathlib.Omega.{arith}
 use lib.ListN.{length, length-append}
 use Rattle.model.specs.Line.{newline, callField, answerField, valueField, decimal, answerLine}
-use Rattle.bench_line.specs.Put.{Put, maxAnswer, maxDecimal}
-use Rattle.bench_line.proofs.Laws.Decimal.{decimal-length}
-use Rattle.bench_line.proofs.Laws.Put.{put-then}
+use Rattle.bench_answer.specs.Put.{Put, maxAnswer, maxDecimal}
+use Rattle.bench_answer.proofs.Laws.Decimal.{decimal-length}
+use Rattle.bench_answer.proofs.Laws.Put.{put-then}
 
 -- a name and a number
 abbrev pub field : List ℕ → ℕ → List ℕ

@@ -1,10 +1,10 @@
 -- The digits are put behind the name.
 use native.Mathlib.Omega.{arith}
 use borrow.Author.Needs.{needs}
-use Rattle.bench_line.proofs.Laws.Put.{put-then}
-use Rattle.bench_line.proofs.Laws.Decimal.{decimal-length}
-use Rattle.bench_line.proofs.put.put_field.Statement.{statement}
-use Rattle.bench_line.proofs.put.put_field.Tie as tie
+use Rattle.bench_answer.proofs.Laws.Put.{put-then}
+use Rattle.bench_answer.proofs.Laws.Decimal.{decimal-length}
+use Rattle.bench_answer.proofs.put.put_field.Statement.{statement}
+use Rattle.bench_answer.proofs.put.put_field.Tie as tie
 
 -- ---- what is known on the way: where the name is put, and the start
 

@@ -9,8 +9,8 @@ use lib.ListN.{length, set, length-append}
 use lib.Dec.{ltb, lit<, lit≤}
 use borrow.Author.Tests.{lt-ltb, le-ltb}
 use Rattle.model.specs.Line.{decimalF, decimal}
-use Rattle.bench_line.specs.Put.{Put, maxDecimal}
-use Rattle.bench_line.proofs.Laws.Put.{put-one, put-then}
+use Rattle.bench_answer.specs.Put.{Put, maxDecimal}
+use Rattle.bench_answer.proofs.Laws.Put.{put-one, put-then}
 
 -- as many digits as asked at most
 decimal-short : (fuel n : ℕ) → length (decimalF fuel n) ≤ fuel

@@ -1,0 +1,4 @@
+-- The laws of this crate.
+pub mod Put
+pub mod Decimal
+pub mod Answer
