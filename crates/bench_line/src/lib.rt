@@ -22,8 +22,7 @@ pub fn parse(line: &[u8]) -> Parsed
         return Parsed::Malformed;
     }
     if starts_with(line, 0, b"op=") {
-        parse_op(line)
-    } else {
-        Parsed::Malformed
+        return parse_op(line);
     }
+    Parsed::Malformed
 }

@@ -42,8 +42,7 @@ pub(crate) fn number_at(line: &[u8], at: usize) -> Number
         next += 1;
     }
     if next == at {
-        Number::Malformed
-    } else {
-        Number::Read { value, next }
+        return Number::Malformed;
     }
+    Number::Read { value, next }
 }

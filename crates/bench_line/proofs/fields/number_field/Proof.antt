@@ -32,16 +32,16 @@ enum-told : tie.Need-enum-told
 enum-told c = search needs
 
 returns : tie.Need-returns
-returns c = sym (n-last _ (read (c .before .before)) _ (c .if1 .taken))
-
-returns-2 : tie.Need-returns-2
-returns-2 c = sym (n-not-last _ (read (c .before .before)) _ (c .if1 .left))
-
-returns-3 : tie.Need-returns-3
-returns-3 c =
+returns c =
     let number = c .before .before in
     let a = start number .args in
     sym (no-n _ (a .line .now) (a .at) (subst (NumberIs _ _) (c .enum-told .given .1) (number .number-at .ensures)) _)
+
+returns-2 : tie.Need-returns-2
+returns-2 c = sym (n-not-last _ (read (c .before .before)) _ (c .if1 .taken))
+
+returns-3 : tie.Need-returns-3
+returns-3 c = sym (n-last _ (read (c .before .before)) _ (c .if1 .left))
 
 pub number-field-spec : {M : Type 1} → statement M
 number-field-spec =

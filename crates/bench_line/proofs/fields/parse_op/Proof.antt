@@ -34,6 +34,12 @@ slice-aggregate-op-else c = search needs
 op-else-requires : tie.Need-op-else-requires
 op-else-requires c κs = search needs
 
+parse-c-requires : tie.Need-parse-c-requires
+parse-c-requires c κs = search needs
+
+parse-f-requires : tie.Need-parse-f-requires
+parse-f-requires c κs = search needs
+
 slice-aggregate-op-else-2 : tie.Need-slice-aggregate-op-else-2
 slice-aggregate-op-else-2 c = search needs
 
@@ -52,47 +58,8 @@ slice-aggregate-op-else-4 c = search needs
 op-else-requires-4 : tie.Need-op-else-requires-4
 op-else-requires-4 c κs = search needs
 
-slice-aggregate-op-else-5 : tie.Need-slice-aggregate-op-else-5
-slice-aggregate-op-else-5 c = search needs
-
-op-else-requires-5 : tie.Need-op-else-requires-5
-op-else-requires-5 c κs = search needs
-
-slice-aggregate-op-else-6 : tie.Need-slice-aggregate-op-else-6
-slice-aggregate-op-else-6 c = search needs
-
-op-else-requires-6 : tie.Need-op-else-requires-6
-op-else-requires-6 c κs = search needs
-
-slice-aggregate-op-else-7 : tie.Need-slice-aggregate-op-else-7
-slice-aggregate-op-else-7 c = search needs
-
-op-else-requires-7 : tie.Need-op-else-requires-7
-op-else-requires-7 c κs = search needs
-
-slice-aggregate-op-else-8 : tie.Need-slice-aggregate-op-else-8
-slice-aggregate-op-else-8 c = search needs
-
-op-else-requires-8 : tie.Need-op-else-requires-8
-op-else-requires-8 c κs = search needs
-
-slice-aggregate-op-else-9 : tie.Need-slice-aggregate-op-else-9
-slice-aggregate-op-else-9 c = search needs
-
-op-else-requires-9 : tie.Need-op-else-requires-9
-op-else-requires-9 c κs = search needs
-
-slice-aggregate-op-else-10 : tie.Need-slice-aggregate-op-else-10
-slice-aggregate-op-else-10 c = search needs
-
-op-else-requires-10 : tie.Need-op-else-requires-10
-op-else-requires-10 c κs = search needs
-
-slice-aggregate-op-else-11 : tie.Need-slice-aggregate-op-else-11
-slice-aggregate-op-else-11 c = search needs
-
-op-else-requires-11 : tie.Need-op-else-requires-11
-op-else-requires-11 c κs = search needs
+parse-s-requires : tie.Need-parse-s-requires
+parse-s-requires c κs = search needs
 
 returns-2 : tie.Need-returns-2
 unfolding ops parseOp opElse
@@ -101,46 +68,40 @@ returns-2 c =
     c .op-else .ensures ∙ sym (from-letter (letter .before) 97 (letter .match .keys1))
 
 returns-3 : tie.Need-returns-3
-unfolding ops parseOp opElse
+unfolding ops
 returns-3 c =
-    let cut = c .before .before in
-    let letter = cut .before .before in
-    c .op-else3 .ensures ∙ ap (opElse Op.Commit _) (cut .op-else2 .ensures) ∙ sym (from-letter (letter .before) 99 (letter .match .keys2))
+    let letter = c .before in
+    c .parse-c .ensures ∙ sym (from-letter (letter .before) 99 (letter .match .keys2))
 
 returns-4 : tie.Need-returns-4
-unfolding ops parseOp opElse
+unfolding ops
 returns-4 c =
-    let free = c .before .before in
-    let letter = free .before .before in
-    c .op-else5 .ensures ∙ ap (opElse Op.Format _) (free .op-else4 .ensures) ∙ sym (from-letter (letter .before) 102 (letter .match .keys3))
+    let letter = c .before in
+    c .parse-f .ensures ∙ sym (from-letter (letter .before) 102 (letter .match .keys3))
 
 returns-5 : tie.Need-returns-5
 unfolding ops parseOp opElse
 returns-5 c =
     let letter = c .before .before in
-    c .op-else6 .ensures ∙ sym (from-letter (letter .before) 111 (letter .match .keys4))
+    c .op-else2 .ensures ∙ sym (from-letter (letter .before) 111 (letter .match .keys4))
 
 returns-6 : tie.Need-returns-6
 unfolding ops parseOp opElse
 returns-6 c =
     let letter = c .before .before in
-    c .op-else7 .ensures ∙ sym (from-letter (letter .before) 112 (letter .match .keys5))
+    c .op-else3 .ensures ∙ sym (from-letter (letter .before) 112 (letter .match .keys5))
 
 returns-7 : tie.Need-returns-7
 unfolding ops parseOp opElse
 returns-7 c =
     let letter = c .before .before in
-    c .op-else8 .ensures ∙ sym (from-letter (letter .before) 114 (letter .match .keys6))
+    c .op-else4 .ensures ∙ sym (from-letter (letter .before) 114 (letter .match .keys6))
 
 returns-8 : tie.Need-returns-8
-unfolding ops parseOp opElse
+unfolding ops
 returns-8 c =
-    let store = c .before .before in
-    let stat = store .before .before in
-    let letter = stat .before .before in
-    c .op-else11 .ensures
-    ∙ ap (opElse Op.Start _) (store .op-else10 .ensures ∙ ap (opElse Op.Store _) (stat .op-else9 .ensures))
-    ∙ sym (from-letter (letter .before) 115 (letter .match .keys7))
+    let letter = c .before in
+    c .parse-s .ensures ∙ sym (from-letter (letter .before) 115 (letter .match .keys7))
 
 returns-9 : tie.Need-returns-9
 unfolding parseOp
@@ -165,26 +126,15 @@ parse-op-spec =
     shared-slice-read-first
     slice-aggregate-op-else
     op-else-requires
+    parse-c-requires
+    parse-f-requires
     slice-aggregate-op-else-2
     op-else-requires-2
     slice-aggregate-op-else-3
     op-else-requires-3
     slice-aggregate-op-else-4
     op-else-requires-4
-    slice-aggregate-op-else-5
-    op-else-requires-5
-    slice-aggregate-op-else-6
-    op-else-requires-6
-    slice-aggregate-op-else-7
-    op-else-requires-7
-    slice-aggregate-op-else-8
-    op-else-requires-8
-    slice-aggregate-op-else-9
-    op-else-requires-9
-    slice-aggregate-op-else-10
-    op-else-requires-10
-    slice-aggregate-op-else-11
-    op-else-requires-11
+    parse-s-requires
     returns-2
     returns-3
     returns-4

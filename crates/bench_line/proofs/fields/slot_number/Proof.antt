@@ -35,6 +35,15 @@ number-at-requires c κs = search needs
 enum-known-value : tie.Need-enum-known-value
 enum-known-value c = search needs
 
+enum-told : tie.Need-enum-told
+enum-told c = search needs
+
+returns : tie.Need-returns
+returns c =
+    let number = c .before .before in
+    let a = start number .args in
+    sym (no-slot _ (a .line .now) (a .at) (subst (NumberIs _ _) (c .enum-told .given .1) (number .number-at .ensures)))
+
 slice-aggregate-starts-with : tie.Need-slice-aggregate-starts-with
 slice-aggregate-starts-with c = search needs
 
@@ -47,26 +56,17 @@ add-number-field c = omega (arith, c .before .starts-with .ensures .within (c .i
 number-field-requires : tie.Need-number-field-requires
 number-field-requires c κs = c .before .starts-with .ensures .within (c .if1 .taken)
 
-enum-told : tie.Need-enum-told
-enum-told c = search needs
-
-returns : tie.Need-returns
-returns c =
+returns-2 : tie.Need-returns-2
+returns-2 c =
     let asked = c .before .before in
     c .number-field .ensures
     ∙ ap (numberField _ _) (sym (found (asked .starts-with .ensures) (c .before .if1 .taken)))
     ∙ sym (slot-read _ (read (valued asked)))
 
-returns-2 : tie.Need-returns-2
-returns-2 c =
-    let asked = c .before in
-    sym (slot-read _ (read (valued asked)) ∙ ap (numberField _ _) (missing (asked .starts-with .ensures) (c .if1 .left)) ∙ no-count-field _ _)
-
 returns-3 : tie.Need-returns-3
 returns-3 c =
-    let number = c .before .before in
-    let a = start number .args in
-    sym (no-slot _ (a .line .now) (a .at) (subst (NumberIs _ _) (c .enum-told .given .1) (number .number-at .ensures)))
+    let asked = c .before in
+    sym (slot-read _ (read (valued asked)) ∙ ap (numberField _ _) (missing (asked .starts-with .ensures) (c .if1 .left)) ∙ no-count-field _ _)
 
 pub slot-number-spec : {M : Type 1} → statement M
 slot-number-spec =
@@ -74,11 +74,11 @@ slot-number-spec =
     (tie.spec
     number-at-requires
     enum-known-value
+    enum-told
+    returns
     slice-aggregate-starts-with
     starts-with-requires
     add-number-field
     number-field-requires
-    enum-told
-    returns
     returns-2
     returns-3)
