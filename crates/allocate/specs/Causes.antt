@@ -6,8 +6,8 @@ use lib.ListN.{length}
 use lib.Dec.{ltb}
 use Rattle.bitmap.specs.Sizes.{countInRange}
 use Rattle.bitmap.specs.Blocks.{availableBlocks}
-use Rattle.model.specs.declared.error.Error.the-variants.{CountRange, ListShort, TooFewAvailable}
-use Rattle.model.specs.Errors.{Cause, _⇒_}
+use Rattle.types.specs.declared.error.Error.the-variants.{CountRange, ListShort, TooFewAvailable}
+use Rattle.model.specs.First.{Cause, _⇒_}
 
 -- 15, 16 and 17
 abbrev pub countCauses : ℕ → List ℕ → List ℕ → ℕ → List ℕ → List Cause

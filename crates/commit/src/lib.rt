@@ -7,10 +7,10 @@ ghost use Rattle.model.specs.Calls.Committing.{commitAnswer, commitMemory};
 ghost use Rattle.commit.specs.Due.{dueFor};
 use bitmap::Bitmap;
 use bitops::compare::changed;
-use model::answer::Stored;
-use model::memory::Memory;
-use model::memory::Pending;
-use model::memory::Slot;
+use types::answer::Stored;
+use types::memory::Memory;
+use types::memory::Pending;
+use types::memory::Slot;
 use validity::valid;
 use verdicts::ready::precommitted;
 

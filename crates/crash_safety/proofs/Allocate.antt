@@ -11,13 +11,13 @@ use lib.Seq.{take-at}
 use Rattle.bitmap.specs.Blocks.{member}
 use Rattle.bitmap.proofs.Laws.Bits.{noBits-bit, bitmapOf-bits}
 use Rattle.bitmap.proofs.Laws.Blocks.{member-append}
-use Rattle.model.specs.declared.error.Error.{Error}
-use Rattle.model.specs.declared.memory.Memory.{Memory}
-use Rattle.model.specs.declared.memory.Slot.{Slot}
-use Rattle.model.specs.Errors.{unlessRefused}
-use Rattle.model.specs.Memory.{slotAt, withTam, isActive, samBit, comBit, tamBit, touched, volumeBitmap}
+use Rattle.types.specs.declared.error.Error.{Error}
+use Rattle.types.specs.declared.memory.Memory.{Memory}
+use Rattle.types.specs.declared.memory.Slot.{Slot}
+use Rattle.model.specs.First.{unlessRefused}
+use Rattle.types.specs.Memory.{slotAt, withTam, isActive, samBit, comBit, tamBit, volumeBitmap}
 use Rattle.model.specs.Causes.{available}
-use Rattle.model.specs.Valid.{touches}
+use Rattle.model.specs.Valid.{touched, touches}
 use Rattle.model.specs.Calls.Allocate.{allocateError, lowest, taking, allocateMemory, allocateAnswer, allocateList}
 use Rattle.model.specs.Outcome.{outcome, allocateCall}
 use Rattle.model.proofs.Laws.Numbers.{grant-number}

@@ -10,7 +10,7 @@ use Rattle.bitmap.specs.Sizes.{maxCount, blocksInRange, countInRange, slotInRan
 use Rattle.bitmap.specs.Bits.{isSet, bit, wordOf, wordsOf, bitmapOf, noBitsFrom}
 use Rattle.bitmap.specs.Blocks.{scan, from, allocatedBlocks, isAvailable, availableBlocks, member, allBelow}
 use Rattle.bitmap.specs.Majority.{majority}
-use Rattle.model.specs.Answers.{done, granted, due, counted}
+use Rattle.types.specs.Answers.{done, granted, due, counted}
 use Rattle.model.specs.Calls.Allocate.{allocateError, lowest, taking, allocateAnswer, allocateMemory, allocateList}
 use Rattle.model.specs.Calls.Committing.{commitError, committing, commitAnswer, commitMemory}
 use Rattle.model.specs.Calls.Deallocate.{deallocateError, freeing, deallocateAnswer, deallocateMemory}
@@ -22,14 +22,14 @@ use Rattle.model.specs.Calls.Start.{startError, started, startAnswer, startMemo
 use Rattle.model.specs.Calls.Status.{statusError, counts as statusCounts, statusAnswer, allocated, activeSlots}
 use Rattle.model.specs.Calls.Storing.{storeError, stillDue, advanced, nextStored, storeAnswer, storeMemory, storeDisk}
 use Rattle.model.specs.Causes.{memoryInvalid, diskLengthWrong, diskBlocksWrong, diskBitmapWrong, diskLogWrong, diskMismatched, blocksOutOfRange, nothingPending, workPending, slotOutOfRange, slotActive, slotInactive, slotPrecommitted, slotNotPrecommitted, countOutOfRange, listShort, available, tooFewAvailable, blockOutOfRange, blockFree, blockFreeing}
-use Rattle.model.specs.Pending.{isNothing, storesDone, storesDue, oneMoreDone, finished}
+use Rattle.types.specs.Pending.{isNothing}
+use Rattle.model.specs.Pending.{storesDone, storesDue, oneMoreDone, finished}
 use Rattle.model.specs.Commit.{committedSam, entriesOf, changedOf, commitDue, refreshed, committed}
 use Rattle.model.specs.Disk.{lengthIn, entriesIn, logEntries, entriesValid, logValid, durable, dueStores, entriesAgree, recoveryMatches, diskMatches}
-use Rattle.model.specs.Errors.{firstOr, first, unlessRefused}
-use Rattle.model.specs.Memory.{touched}
+use Rattle.model.specs.First.{firstOr, first, unlessRefused}
 use Rattle.model.specs.Outcome.{outcome, Call, Outcome, openCall, startCall, allocateCall, deallocateCall, precommitCall, commitCall, rollbackCall, storeCall, statusCall, crashCall}
 use Rattle.model.specs.Stores.{writes, changesFrom, logStores, checkpointWith, journalWith, checkpointStores, commitStores}
-use Rattle.model.specs.Valid.{sameWords, allSlots, slotValid, touches, touchesAgree, isQuiet, pendingValid, valid}
+use Rattle.model.specs.Valid.{touched, sameWords, allSlots, slotValid, touches, touchesAgree, isQuiet, pendingValid, valid}
 use Rattle.crash_safety.specs.Ledger.{emptied, hasWord, wordsFrom, setsWords, without, takes, frees, counts, commits, stores, entered, enter, enterAll, Ledger, Sets, noSets, ledgerOf, setsOf, holders, takers}
 use Rattle.crash_safety.specs.World.{events, step, run, World, begin}
 use Rattle.model.specs.Sizes.{diskWords}

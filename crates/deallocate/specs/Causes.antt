@@ -4,8 +4,8 @@ use mathlib.Core.Bool.{not, _&&_}
 use mathlib.Core.List.{List, [], _∷_}
 use lib.Dec.{leb}
 use Rattle.bitmap.specs.Bits.{bit}
-use Rattle.model.specs.declared.error.Error.the-variants.{BlockRange, BlockFree, BlockFreeing}
-use Rattle.model.specs.Errors.{Cause, _⇒_}
+use Rattle.types.specs.declared.error.Error.the-variants.{BlockRange, BlockFree, BlockFreeing}
+use Rattle.model.specs.First.{Cause, _⇒_}
 
 -- 18, 19 and 20
 abbrev pub blockCauses : ℕ → List ℕ → List ℕ → ℕ → List Cause

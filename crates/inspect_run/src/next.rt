@@ -1,9 +1,9 @@
 // What a call leaves: the memory, and the answer and value that are printed.
-use model::answer::Changed;
-use model::answer::Granted;
-use model::answer::Measured;
-use model::answer::Stored;
-use model::memory::Memory;
+use types::answer::Changed;
+use types::answer::Granted;
+use types::answer::Measured;
+use types::answer::Stored;
+use types::memory::Memory;
 
 pub(crate) struct Next {
     pub memory: Memory,

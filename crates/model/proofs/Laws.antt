@@ -10,7 +10,6 @@ pub mod Entries
 pub mod Changes
 pub mod DiskParts
 pub mod Closing
-pub mod Shape
 pub mod Matching
 pub mod Valid
 pub mod Commit

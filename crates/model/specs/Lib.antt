@@ -1,9 +1,7 @@
 -- What is promised: every rule of document 01 as a definition that computes.
 pub mod Types
 pub mod Sizes
-pub mod Errors
-pub mod Answers
-pub mod Memory
+pub mod First
 pub mod Stores
 pub mod Commit
 pub mod Pending

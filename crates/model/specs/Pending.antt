@@ -1,22 +1,8 @@
 -- Pending work by its parts, one line a kind: its stores done and due, one more done, and what its last store finishes.
 use Prim.Native.Nat.{ℕ, _+_, _-_}
-use mathlib.Core.Bool.{Bool, true, false}
-use Rattle.bitmap.specs.Sizes.{slotIndex}
 use Rattle.model.specs.Types.{Pending, Nothing, Commit, Recovery, Memory}
-use Rattle.model.specs.Memory.{withPending}
+use Rattle.types.specs.Memory.{withPending}
 use Rattle.model.specs.Commit.{committed}
-
--- whether no work is pending
-unfoldable pub isNothing : Pending → Bool
-isNothing Nothing = true
-isNothing (Commit s done due) = false
-isNothing (Recovery done due) = false
-
--- the slot to look at for a commit, and 0 for other work
-unfoldable pub ownerOf : Pending → ℕ
-ownerOf Nothing = 0
-ownerOf (Commit s done due) = slotIndex s
-ownerOf (Recovery done due) = 0
 
 -- the stores done so far
 unfoldable pub storesDone : Pending → ℕ

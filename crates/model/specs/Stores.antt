@@ -1,5 +1,5 @@
 -- Stores: one word of the disk each. Document 01: "A store writes one word. It lands whole and in turn."
-use Prim.Native.Nat.{ℕ, suc, _+_, _-_, _*_, _/_}
+use Prim.Native.Nat.{ℕ, suc, _+_}
 use mathlib.Core.Bool.{cond}
 use mathlib.Core.List.{List, [], _∷_, _++_, map}
 use lib.ListN.{length, set, take}
@@ -66,11 +66,3 @@ checkpointStores entries = checkpointWith closingStores entries
 -- all stores of a commit
 unfoldable pub commitStores : List Store → List Store
 commitStores entries = journalWith (commitPoint entries) closingStores entries
-
--- "3·d + 2": the stores of a commit that changes d words
-abbrev pub storesFor : ℕ → ℕ
-storesFor changed = 3 * changed + 2
-
--- and the d of a commit with so many stores due
-abbrev pub changedFor : ℕ → ℕ
-changedFor due = (due - 2) / 3

@@ -7,7 +7,7 @@ use Rattle.bitmap.specs.Sizes.{blocksInRange}
 use Rattle.bitmap.specs.Bits.{noBitsFrom}
 use Rattle.bitmap.specs.Blocks.{allBelow}
 use Rattle.model.specs.Types.{Slot, Pending, Nothing, Commit, Recovery, Memory}
-use Rattle.model.specs.Memory.{slotAt, isActive, isPrecommitted, samBit, comBit, touched, emptyBitmap, volumeWords}
+use Rattle.types.specs.Memory.{slotAt, isActive, isPrecommitted, samBit, comBit, tamBit, emptyBitmap, volumeWords}
 use Rattle.model.specs.Commit.{changedOf, commitDue}
 
 -- whether two lists of words are the same
@@ -27,6 +27,10 @@ unfoldable pub slotValid : ℕ → Slot → Bool
 slotValid blocks slot =
     noBitsFrom blocks (slot .tam .words)
     && cond (isActive (slot .state)) true (sameWords (slot .tam .words) (emptyBitmap .words))
+
+-- "A seat has touched a block where its TAM differs from SAM."
+unfoldable pub touched : Memory → Slot → ℕ → Bool
+touched memory slot b = xor (tamBit slot b) (samBit memory b)
 
 -- how many of the slots that aren't idle have touched a block
 unfoldable pub touches : Memory → ℕ → List Slot → ℕ

@@ -3,9 +3,9 @@ ghost use mathlib.Core.Path.{_≡_};
 ghost use Rattle.model.specs.Calls.Rollback.{rollbackAnswer, rollbackMemory};
 use bitmap::Bitmap;
 use bitops::combine;
-use model::answer::Changed;
-use model::memory::Memory;
-use model::memory::Slot;
+use types::answer::Changed;
+use types::memory::Memory;
+use types::memory::Slot;
 use validity::valid;
 use verdicts::ready::active;
 

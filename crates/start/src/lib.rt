@@ -2,10 +2,10 @@
 ghost use mathlib.Core.Path.{_≡_};
 ghost use Rattle.model.specs.Calls.Start.{startAnswer, startMemory};
 use bitmap::Bitmap;
-use model::answer::Changed;
-use model::memory::Memory;
-use model::memory::Slot;
-use model::memory::SlotState;
+use types::answer::Changed;
+use types::memory::Memory;
+use types::memory::Slot;
+use types::memory::SlotState;
 use validity::valid;
 use verdicts::ready::idle;
 

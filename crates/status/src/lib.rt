@@ -6,12 +6,12 @@ ghost use Rattle.model.specs.Calls.Status.{activeSlots, statusAnswer};
 ghost use Rattle.status.specs.Status.{statusOf};
 use available::count::count_ones;
 use bitmap::Bitmap;
-use model::answer::Counts;
-use model::answer::Measured;
-use model::answer::StatusAnswer;
-use model::error::Error;
-use model::memory::Memory;
-use model::memory::Slot;
+use types::answer::Counts;
+use types::answer::Measured;
+use types::answer::StatusAnswer;
+use types::error::Error;
+use types::memory::Memory;
+use types::memory::Slot;
 use validity::valid;
 
 // The number of slots that aren't idle.

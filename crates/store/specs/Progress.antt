@@ -3,9 +3,10 @@ use Prim.Native.Nat.{_+_, _<_}
 use mathlib.Core.Path.{_≡_}
 use mathlib.Core.Bool.{Bool, false, cond}
 use lib.Dec.{eqb}
-use Rattle.model.specs.declared.memory.Pending.{Pending}
-use Rattle.model.specs.declared.memory.Pending.the-variants.{Nothing, Commit, Recovery}
-use Rattle.model.specs.Pending.{isNothing, storesDone, storesDue, oneMoreDone}
+use Rattle.types.specs.declared.memory.Pending.{Pending}
+use Rattle.types.specs.declared.memory.Pending.the-variants.{Nothing, Commit, Recovery}
+use Rattle.types.specs.Pending.{isNothing}
+use Rattle.model.specs.Pending.{storesDone, storesDue, oneMoreDone}
 
 -- work that is pending has a store left
 abbrev pub Unfinished : Pending → Type 0

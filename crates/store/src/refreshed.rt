@@ -5,11 +5,11 @@ ghost use Prim.Native.Nat.{_<_};
 ghost use lib.ListN.{set};
 ghost use Rattle.bitmap.specs.Sizes.{slotCount};
 ghost use Rattle.bitmap.specs.Bits.{IsBitmap};
-ghost use Rattle.model.specs.Memory.{idleSlot};
+ghost use Rattle.types.specs.Memory.{idleSlot};
 ghost use Rattle.store.specs.Refreshed.{refreshedSlot};
 use bitmap::Bitmap;
 use bitops::combine::refresh;
-use model::memory::Slot;
+use types::memory::Slot;
 
 // The slots after the commit of one of them, which is idle then. Of the others each that isn't idle takes the new SAM's
 // bits where SAM changed.

@@ -4,17 +4,17 @@ ghost use mathlib.Core.Bool.{true};
 ghost use lib.ListN.{length};
 ghost use Rattle.bitmap.specs.Bits.{IsBitmap};
 ghost use Rattle.model.specs.Sizes.{diskWords};
-ghost use Rattle.model.specs.Errors.{first};
+ghost use Rattle.model.specs.First.{first};
 ghost use Rattle.verdicts.specs.Verdicts.{verdict};
 ghost use Rattle.store.specs.Step.{Fits, CanStore, partsMatch, storeCauses, diskAfter};
 use disk_log::layout::DISK_WORDS;
 use disk_match::matching::commit_matches;
 use disk_match::matching::settled_matches;
 use disk_match::recovery::recovery_matches;
-use model::error::Error;
-use model::memory::Pending;
 use next_store::stores::store_commit;
 use next_store::stores::store_recovery;
+use types::error::Error;
+use types::memory::Pending;
 use verdicts::verdict::Verdict;
 
 // Whether the disk is as the memory and its stores done leave it.

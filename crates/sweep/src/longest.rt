@@ -2,11 +2,11 @@
 use allocate::allocate;
 use bitmap::Bitmap;
 use commit::commit;
-use model::answer::Stored;
-use model::memory::Memory;
 use precommit::precommit;
 use start::start;
 use store::store;
+use types::answer::Stored;
+use types::memory::Memory;
 use volume::format::format;
 use volume::open::open;
 

@@ -4,9 +4,10 @@ use mathlib.Core.Bool.{Bool, _&&_}
 use mathlib.Core.List.{List}
 use lib.ListN.{length}
 use lib.Dec.{leb, ltb, eqb}
-use Rattle.model.specs.declared.memory.SlotState.{SlotState}
-use Rattle.model.specs.Memory.{isPrecommitted}
-use Rattle.model.specs.Stores.{changes, storesFor}
+use Rattle.types.specs.declared.memory.SlotState.{SlotState}
+use Rattle.types.specs.Memory.{isPrecommitted}
+use Rattle.types.specs.Pending.{storesFor}
+use Rattle.model.specs.Stores.{changes}
 
 -- d: the words at which the slot's bitmap differs from SAM
 unfoldable pub changedWords : List ℕ → List ℕ → ℕ

@@ -1,13 +1,13 @@
 // What the six transaction calls test first: whether the memory is valid, its pending work, the slot's number and its state.
 ghost use mathlib.Core.Path.{_≡_};
-ghost use Rattle.model.specs.Errors.{first};
+ghost use Rattle.model.specs.First.{first};
 ghost use Rattle.verdicts.specs.Verdicts.{verdict};
 ghost use Rattle.verdicts.specs.Ready.{readyCauses, idleCauses, activeCauses, openCauses, precommittedCauses};
 use crate::verdict::Verdict;
 use bitmap::Bitmap;
-use model::error::Error;
-use model::memory::Pending;
-use model::memory::SlotState;
+use types::error::Error;
+use types::memory::Pending;
+use types::memory::SlotState;
 
 // Causes 1, 8 and 10: all six test them.
 fn ready(sound: bool, pending: Pending, slot: u32) -> Verdict

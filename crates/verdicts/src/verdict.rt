@@ -1,11 +1,11 @@
 // Whether a call is refused, and by which cause; and what the call answers by that.
 ghost use mathlib.Core.Path.{_≡_};
-ghost use Rattle.model.specs.Answers.{done, granted, due};
+ghost use Rattle.types.specs.Answers.{done, granted, due};
 ghost use Rattle.verdicts.specs.Verdicts.{errorOf, isAccepted, unlessHolds};
-use model::answer::Answer;
-use model::answer::GrantAnswer;
-use model::answer::StoresAnswer;
-use model::error::Error;
+use types::answer::Answer;
+use types::answer::GrantAnswer;
+use types::answer::StoresAnswer;
+use types::error::Error;
 
 pub enum Verdict {
     Accepted,

@@ -5,8 +5,8 @@ ghost use Rattle.model.specs.Sizes.{diskWords};
 ghost use Rattle.model.specs.Calls.Format.{formatAnswer, formatDisk, formatted};
 use bitmap::Bitmap;
 use disk_log::layout;
-use model::answer::Answer;
-use model::error::Error;
+use types::answer::Answer;
+use types::error::Error;
 
 // The words of a disk.
 pub const DISK_WORDS: usize = layout::DISK_WORDS;

@@ -3,10 +3,10 @@ use mathlib.Core.Path.{_≡_, refl, sym, ap, subst}
 use mathlib.Core.Logic.{_⊎_, inl, inr, ⊎-elim}
 use mathlib.Core.Option.{Option}
 use mathlib.Core.List.{List, [], _∷_}
-use Rattle.model.specs.declared.error.Error.{Error}
-use Rattle.model.specs.declared.memory.Memory.{Memory}
-use Rattle.model.specs.Memory.{zeroMemory}
-use Rattle.model.specs.Errors.{firstOr, first, unlessRefused}
+use Rattle.types.specs.declared.error.Error.{Error}
+use Rattle.types.specs.declared.memory.Memory.{Memory}
+use Rattle.types.specs.Memory.{zeroMemory}
+use Rattle.model.specs.First.{firstOr, first, unlessRefused}
 use Rattle.model.specs.Valid.{valid}
 use Rattle.bitmap.specs.Sizes.{blocksInRange}
 use Rattle.model.specs.Causes.{memoryInvalid}

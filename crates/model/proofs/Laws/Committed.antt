@@ -9,9 +9,9 @@ use lib.Seq.{getD-set-same, getD-set-other}
 use Rattle.bitmap.specs.Bits.{bit, noBitsFrom, IsBitmap}
 use Rattle.bitmap.proofs.Laws.Bits.{bitmapOf-is, noBits-bit, noBits-bitmapOf}
 use Rattle.model.specs.Types.{Bitmap, Slot, Memory}
-use Rattle.model.specs.Memory.{slotAt, idleSlot, isActive, samBit, comBit, tamBit, touched, withTam, volumeBitmap}
+use Rattle.types.specs.Memory.{slotAt, idleSlot, isActive, samBit, comBit, tamBit, withTam, volumeBitmap}
 use Rattle.model.specs.Commit.{committedSam, refreshed, committed}
-use Rattle.model.specs.Valid.{slotValid, pendingValid}
+use Rattle.model.specs.Valid.{touched, slotValid, pendingValid}
 use Rattle.model.proofs.Laws.Valid.{ValidParts, touchesBlock, idle-valid}
 use Rattle.model.proofs.Laws.Commit.{same-or-not, both-differ, touched-differs, committed-bits, refreshed-bits, others-kept}
 use Rattle.model.proofs.Laws.Touches.{one, xor-self, differs, allSlots-set, allSlots-map, active-valid, balanced-agree}

@@ -4,7 +4,7 @@ use mathlib.Core.Bool.{Bool, true, false}
 use mathlib.Core.Option.{none, some}
 use mathlib.Core.List.{List, [], _∷_, _++_}
 use Rattle.model.specs.Types.{Error}
-use Rattle.model.specs.Errors.{Cause, first, firstOr, _⇒_}
+use Rattle.model.specs.First.{Cause, first, firstOr, _⇒_}
 
 -- ---- one cause after the other
 

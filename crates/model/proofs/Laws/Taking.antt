@@ -13,7 +13,8 @@ use Rattle.bitmap.specs.Blocks.{member}
 use Rattle.bitmap.proofs.Laws.Bits.{bit-below, noBits-bitmapOf}
 use Rattle.bitmap.proofs.Laws.Blocks.{member-take, available-below, available-free, available-unused}
 use Rattle.model.specs.Types.{Nothing, Slot, Memory}
-use Rattle.model.specs.Memory.{slotAt, withTam, isActive, samBit, comBit, tamBit, touched, withCom, withSlot, volumeBitmap}
+use Rattle.types.specs.Memory.{slotAt, withTam, isActive, samBit, comBit, tamBit, withCom, withSlot, volumeBitmap}
+use Rattle.model.specs.Valid.{touched}
 use Rattle.model.specs.Causes.{available}
 use Rattle.model.specs.Calls.Allocate.{lowest, taking}
 use Rattle.model.specs.Calls.Deallocate.{freeing}

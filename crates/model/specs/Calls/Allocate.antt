@@ -7,9 +7,9 @@ use mathlib.Core.List.{List, [], _∷_, _++_}
 use lib.ListN.{take, drop, getD}
 use Rattle.bitmap.specs.Blocks.{member}
 use Rattle.model.specs.Types.{Error, GrantAnswer, Memory, MemoryInvalid, WorkPending, SlotRange, SlotIdle, SlotPrecommitted, CountRange, ListShort, TooFewAvailable}
-use Rattle.model.specs.Errors.{first, _⇒_, unlessRefused}
-use Rattle.model.specs.Answers.{granted}
-use Rattle.model.specs.Memory.{withCom, withSlot, withTam, slotAt, comBit, tamBit, volumeBitmap}
+use Rattle.model.specs.First.{first, _⇒_, unlessRefused}
+use Rattle.types.specs.Answers.{granted}
+use Rattle.types.specs.Memory.{withCom, withSlot, withTam, slotAt, comBit, tamBit, volumeBitmap}
 use Rattle.model.specs.Causes.{memoryInvalid, workPending, slotOutOfRange, slotInactive, slotPrecommitted, countOutOfRange, listShort, available, tooFewAvailable}
 
 unfoldable pub allocateError : Memory → ℕ → ℕ → List ℕ → Option Error

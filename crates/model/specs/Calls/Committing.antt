@@ -6,9 +6,9 @@ use mathlib.Core.Option.{Option}
 use mathlib.Core.List.{[], _∷_}
 use lib.Dec.{eqb}
 use Rattle.model.specs.Types.{Error, StoresAnswer, Commit, Memory, MemoryInvalid, WorkPending, SlotRange, SlotIdle, SlotNotPrecommitted}
-use Rattle.model.specs.Errors.{first, _⇒_, unlessRefused}
-use Rattle.model.specs.Answers.{due}
-use Rattle.model.specs.Memory.{withPending}
+use Rattle.model.specs.First.{first, _⇒_, unlessRefused}
+use Rattle.types.specs.Answers.{due}
+use Rattle.types.specs.Memory.{withPending}
 use Rattle.model.specs.Commit.{changedOf, commitDue, committed}
 use Rattle.model.specs.Causes.{memoryInvalid, workPending, slotOutOfRange, slotInactive, slotNotPrecommitted}
 

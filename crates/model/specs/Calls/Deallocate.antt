@@ -5,9 +5,9 @@ use mathlib.Core.Option.{Option}
 use mathlib.Core.List.{[], _∷_}
 use lib.Dec.{eqb}
 use Rattle.model.specs.Types.{Error, Answer, Memory, MemoryInvalid, WorkPending, SlotRange, SlotIdle, SlotPrecommitted, BlockRange, BlockFree, BlockFreeing}
-use Rattle.model.specs.Errors.{first, _⇒_, unlessRefused}
-use Rattle.model.specs.Answers.{done}
-use Rattle.model.specs.Memory.{withCom, withSlot, withTam, slotAt, comBit, tamBit, volumeBitmap}
+use Rattle.model.specs.First.{first, _⇒_, unlessRefused}
+use Rattle.types.specs.Answers.{done}
+use Rattle.types.specs.Memory.{withCom, withSlot, withTam, slotAt, comBit, tamBit, volumeBitmap}
 use Rattle.model.specs.Causes.{memoryInvalid, workPending, slotOutOfRange, slotInactive, slotPrecommitted, blockOutOfRange, blockFree, blockFreeing}
 
 unfoldable pub deallocateError : Memory → ℕ → ℕ → Option Error

@@ -5,8 +5,8 @@ use mathlib.Core.List.{List, [], _∷_}
 use lib.ListN.{replicate}
 use Rattle.model.specs.Types.{Error, Answer, DiskLength, BlocksRange}
 use Rattle.model.specs.Sizes.{diskWords}
-use Rattle.model.specs.Errors.{first, _⇒_, unlessRefused}
-use Rattle.model.specs.Answers.{done}
+use Rattle.model.specs.First.{first, _⇒_, unlessRefused}
+use Rattle.types.specs.Answers.{done}
 use Rattle.model.specs.Causes.{diskLengthWrong, blocksOutOfRange}
 
 unfoldable pub formatError : List ℕ → ℕ → Option Error

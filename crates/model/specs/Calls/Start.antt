@@ -3,9 +3,9 @@ use Prim.Native.Nat.{ℕ}
 use mathlib.Core.Option.{Option}
 use mathlib.Core.List.{[], _∷_}
 use Rattle.model.specs.Types.{Error, Answer, Open, Memory, MemoryInvalid, WorkPending, SlotRange, SlotBusy}
-use Rattle.model.specs.Errors.{first, _⇒_, unlessRefused}
-use Rattle.model.specs.Answers.{done}
-use Rattle.model.specs.Memory.{withSlot, withState, withTam, slotAt}
+use Rattle.model.specs.First.{first, _⇒_, unlessRefused}
+use Rattle.types.specs.Answers.{done}
+use Rattle.types.specs.Memory.{withSlot, withState, withTam, slotAt}
 use Rattle.model.specs.Causes.{memoryInvalid, workPending, slotOutOfRange, slotActive}
 
 unfoldable pub startError : Memory → ℕ → Option Error

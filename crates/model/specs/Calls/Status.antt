@@ -7,9 +7,9 @@ use mathlib.Core.List.{List, [], _∷_}
 use lib.ListN.{length}
 use Rattle.bitmap.specs.Blocks.{allocatedBlocks}
 use Rattle.model.specs.Types.{Error, StatusAnswer, Counts, Slot, Memory, MemoryInvalid}
-use Rattle.model.specs.Errors.{first, _⇒_}
-use Rattle.model.specs.Answers.{counted}
-use Rattle.model.specs.Memory.{isActive}
+use Rattle.model.specs.First.{first, _⇒_}
+use Rattle.types.specs.Answers.{counted}
+use Rattle.types.specs.Memory.{isActive}
 use Rattle.model.specs.Causes.{memoryInvalid}
 
 unfoldable pub statusError : Memory → Option Error

@@ -6,9 +6,9 @@ use mathlib.Core.List.{List, [], _∷_}
 use lib.ListN.{take, drop}
 use lib.Dec.{eqb}
 use Rattle.model.specs.Types.{Error, StoresAnswer, Pending, Memory, MemoryInvalid, DiskLength, DiskMismatch, NothingPending}
-use Rattle.model.specs.Errors.{first, _⇒_, unlessRefused}
-use Rattle.model.specs.Answers.{due}
-use Rattle.model.specs.Memory.{withPending}
+use Rattle.model.specs.First.{first, _⇒_, unlessRefused}
+use Rattle.types.specs.Answers.{due}
+use Rattle.types.specs.Memory.{withPending}
 use Rattle.model.specs.Stores.{writes}
 use Rattle.model.specs.Pending.{storesDone, storesDue, oneMoreDone, finished}
 use Rattle.model.specs.Disk.{dueStores}

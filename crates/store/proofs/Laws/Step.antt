@@ -5,9 +5,9 @@ use mathlib.Core.Bool.{Bool, true, false, not}
 use mathlib.Core.List.{List, [], _∷_}
 use lib.ListN.{length}
 use borrow.Author.Tests.{eq-eqb, ne-eqb}
-use Rattle.model.specs.declared.error.Error.the-variants.{MemoryInvalid, DiskLength}
+use Rattle.types.specs.declared.error.Error.the-variants.{MemoryInvalid, DiskLength}
 use Rattle.model.specs.Sizes.{diskWords}
-use Rattle.model.specs.Errors.{Cause, first, _⇒_}
+use Rattle.model.specs.First.{Cause, first, _⇒_}
 use Rattle.model.specs.Causes.{diskLengthWrong}
 use Rattle.model.proofs.Laws.First.{cause-holds, cause-passed, no-cause}
 use Rattle.verdicts.specs.declared.verdict.Verdict.{Verdict}

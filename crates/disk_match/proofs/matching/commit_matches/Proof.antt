@@ -7,7 +7,8 @@ use denote.Ref.{now}
 use borrow.Author.Tests.{not-true, not-false}
 use borrow.Author.Needs.{needs}
 use Rattle.bitmap.specs.Sizes.{bitmapWords}
-use Rattle.model.specs.Stores.{after, changes, commitStores, changedFor}
+use Rattle.types.specs.Pending.{changedFor}
+use Rattle.model.specs.Stores.{after, changes, commitStores}
 use Rattle.model.specs.Valid.{sameWords}
 use Rattle.model.specs.Disk.{baseImage}
 use Rattle.model.proofs.Laws.Changes.{changes-length}

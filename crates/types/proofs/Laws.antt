@@ -1,0 +1,2 @@
+-- What is known of every memory.
+pub mod Shape
