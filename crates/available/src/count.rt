@@ -47,8 +47,17 @@ fn count_four(sam: &[u32; 128], com: &[u32; 128], k: usize) -> u32
     count_two(sam, com, k) + count_two(sam, com, k + 2)
 }
 
+// The number of available blocks of the eight words from k on, which the volume fills.
+fn count_eight(sam: &[u32; 128], com: &[u32; 128], k: usize) -> u32
+    requires { ⌜ CanCount (now sam) (now «com») k (k + 8) ⌝ }
+    ensures { λ r. ⌜ IsCount (now (sam .entry)) (now («com» .entry)) k (k + 8) r ⌝ }
+{
+    count_four(sam, com, k) + count_four(sam, com, k + 4)
+}
+
 // The number of available blocks of the words from lo up to hi, which the volume fills: those of the left half and
-// those of the right. Two words and four are written out, with no branch, so that the compiler counts them at once.
+// those of the right. Two words, four and eight are written out, with no branch, so that the compiler counts them at
+// once.
 fn count_words(sam: &[u32; 128], com: &[u32; 128], lo: usize, hi: usize) -> u32
     requires { ⌜ CanCount (now sam) (now «com») lo hi ⌝ }
     ensures { λ r. ⌜ IsCount (now (sam .entry)) (now («com» .entry)) lo hi r ⌝ }
@@ -62,6 +71,9 @@ fn count_words(sam: &[u32; 128], com: &[u32; 128], lo: usize, hi: usize) -> u32
     }
     if length == 4 {
         return count_four(sam, com, lo);
+    }
+    if length == 8 {
+        return count_eight(sam, com, lo);
     }
     let middle = lo + length / 2;
     let left = count_words(sam, com, lo, middle);

@@ -1,12 +1,12 @@
 -- Words that a volume fills: how many available blocks they have.
-use Prim.Native.Nat.{ℕ, _+_, _-_, _*_, _^_, _≤_}
+use Prim.Native.Nat.{ℕ, _+_, _-_, _*_, _^_, _≤_, _<_}
 use native.Mathlib.Omega.{arith}
 use mathlib.Core.Path.{refl}
 use mathlib.Core.List.{List}
 use lib.ListN.{getD}
 use lib.Bits.{bitOr}
 use lib.Count.{ones}
-use Rattle.bitmap.specs.Sizes.{wordBits}
+use Rattle.bitmap.specs.Sizes.{wordBits, bitmapWords}
 use Rattle.bitmap.specs.Bits.{IsBitmap}
 use Rattle.bitmap.specs.Blocks.{isAvailable}
 use Rattle.bitmap.proofs.Laws.Blocks.{from-length}
@@ -30,3 +30,7 @@ module _ {sam «com» : List ℕ} where
   pub count-le : {lo hi r : ℕ} → IsCount sam «com» lo hi r → r ≤ wordBits * hi - wordBits * lo
   count-le {lo} {hi} count =
       omega (arith, count .inVolume (32 * hi) (omega arith), from-length (isAvailable sam «com») (32 * hi) (32 * lo))
+
+  -- of a bitmap's words and the words after them, no more than a u32 holds
+  pub count-fits : {lo middle hi a b : ℕ} → middle ≤ hi → hi ≤ bitmapWords → IsCount sam «com» lo middle a → IsCount sam «com» middle hi b → a + b < 2 ^ 32
+  count-fits l within left right = omega (arith, within, count-le (count-join l left right))

@@ -5,13 +5,14 @@ use mathlib.Core.Path.{_≡_}
 use borrow.Author.Needs.{needs}
 use borrow.Fn.Kinds.{In}
 use borrow.Fn.PlainCycle.{Measures, is, falls, and}
-use Rattle.available.proofs.Laws.Whole.{count-join, count-le}
+use Rattle.available.proofs.Laws.Whole.{count-join, count-fits}
 use Rattle.available.proofs.count.count_words.Reads as count-words
 use Rattle.available.proofs.count.count_words.Kinds as count-words-kinds
 use Rattle.available.proofs.count.+count_words.Lts-count_words as count-words-lts
 use Rattle.available.proofs.count.count_one.Reads as count-one-reads
 use Rattle.available.proofs.count.count_two.Reads as count-two-reads
 use Rattle.available.proofs.count.count_four.Reads as count-four-reads
+use Rattle.available.proofs.count.count_eight.Reads as count-eight-reads
 use Rattle.available.proofs.count.+count_words.{statement}
 use Rattle.available.proofs.count.+count_words.Tie.{close}
 
@@ -37,6 +38,8 @@ claims t = (
   count-two-reads.Learnt,
   count-four-reads.Asked,
   count-four-reads.Learnt,
+  count-eight-reads.Asked,
+  count-eight-reads.Learnt,
   count-words-below t,
   count-words.Post,
 )
@@ -71,6 +74,15 @@ returns-3 t c =
     let end : a .lo + 4 ≡ a .hi = omega arith in
     rw end at (c .count-four .ensures)
 
+count-eight-requires : (t : ℕ) → count-words-lts.Need-count-eight-requires (claims t) (count-words-at t) count-words.Post
+count-eight-requires t c κs = search needs
+
+returns-4 : (t : ℕ) → count-words-lts.Need-returns-4 (claims t) (count-words-at t) count-words.Post
+returns-4 t c =
+    let a = c .before .before .before .before .before .args in
+    let end : a .lo + 8 ≡ a .hi = omega arith in
+    rw end at (c .count-eight .ensures)
+
 add-middle : (t : ℕ) → count-words-lts.Need-add-middle (claims t) (count-words-at t) count-words.Post
 add-middle t c = search needs
 
@@ -81,10 +93,10 @@ count-words-requires-2 : (t : ℕ) → count-words-lts.Need-count-words-requires
 count-words-requires-2 t c κs = search needs
 
 add-result : (t : ℕ) → count-words-lts.Need-add-result (claims t) (count-words-at t) count-words.Post
-add-result t c = omega (arith, count-le (c .before .count-words .ensures), count-le (c .count-words2 .ensures))
+add-result t c = record { fits = count-fits (omega arith) (omega arith) (c .before .count-words .ensures) (c .count-words2 .ensures) }
 
-returns-4 : (t : ℕ) → count-words-lts.Need-returns-4 (claims t) (count-words-at t) count-words.Post
-returns-4 t c = count-join (omega arith) (c .before .count-words .ensures) (c .count-words2 .ensures)
+returns-5 : (t : ℕ) → count-words-lts.Need-returns-5 (claims t) (count-words-at t) count-words.Post
+returns-5 t c = count-join (omega arith) (c .before .count-words .ensures) (c .count-words2 .ensures)
 
 pub +count-words-spec : {M : Type 1} → statement M
 +count-words-spec = close μ-count-words λ t. count-words-lts.spec (claims t)
@@ -97,8 +109,10 @@ pub +count-words-spec : {M : Type 1} → statement M
     (returns-2 t)
     (count-four-requires t)
     (returns-3 t)
+    (count-eight-requires t)
+    (returns-4 t)
     (add-middle t)
     (count-words-requires t)
     (count-words-requires-2 t)
     (add-result t)
-    (returns-4 t)
+    (returns-5 t)
