@@ -6,7 +6,7 @@ use lib.ListN.{length}
 use lib.Dec.{ltb}
 use Rattle.bitmap.specs.Sizes.{countInRange}
 use Rattle.bitmap.specs.Blocks.{availableBlocks}
-use Rattle.types.specs.declared.error.Error.the-variants.{CountRange, ListShort, TooFewAvailable}
+use Rattle.model_types.specs.declared.error.Error.the-variants.{CountRange, ListShort, TooFewAvailable}
 use Rattle.model.specs.First.{Cause, _⇒_}
 
 -- 15, 16 and 17

@@ -2,8 +2,8 @@
 use Prim.Native.Nat.{ℕ}
 use mathlib.Core.Option.{none, some}
 use mathlib.Core.List.{List, _++_}
-use Rattle.types.specs.declared.line.Op.{Op}
-use Rattle.types.specs.declared.line.Parsed.{Parsed}
+use Rattle.model_types.specs.declared.line.Op.{Op}
+use Rattle.model_types.specs.declared.line.Parsed.{Parsed}
 use Rattle.model.specs.Line.{opWord, slotField, afterPrefix, slotNumber}
 
 -- what follows an op's word and " seat=", or what other ops give

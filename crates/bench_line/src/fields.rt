@@ -9,9 +9,9 @@ ghost use Rattle.bench_line.specs.Ops.{opElse};
 use crate::number::Number;
 use crate::number::number_at;
 use crate::prefix::starts_with;
-use types::line::Line;
-use types::line::Op;
-use types::line::Parsed;
+use model_types::line::Line;
+use model_types::line::Op;
+use model_types::line::Parsed;
 
 // Where the op's word stands in a line.
 const OP: usize = 3;

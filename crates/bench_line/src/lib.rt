@@ -6,8 +6,8 @@ mod prefix;
 ghost use mathlib.Core.Path.{_≡_};
 ghost use Rattle.model.specs.Line.{parseLine};
 use fields::parse_op;
+use model_types::line::Parsed;
 use prefix::starts_with;
-use types::line::Parsed;
 
 // The most lines that are read.
 pub const MAX_LINES: u32 = 60000;

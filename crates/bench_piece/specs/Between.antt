@@ -3,7 +3,7 @@ use Prim.Native.Nat.{ℕ, suc, _+_, _*_, _≤_}
 use mathlib.Core.Path.{_≡_}
 use mathlib.Core.List.{List}
 use lib.ListN.{length, take}
-use Rattle.types.specs.Memory.{zeroMemory}
+use Rattle.model_types.specs.Memory.{zeroMemory}
 use Rattle.model.specs.Bench.{maxLines}
 use Rattle.bench_answer.specs.Put.{maxAnswer}
 use Rattle.bench_step.specs.Cut.{NoEnd}

@@ -16,7 +16,7 @@ use bench_line::MAX_LINES;
 use bench_step::cut::line_end;
 use bench_step::lines::Lines;
 use bench_step::lines::answer_lines;
-use types::memory::Memory;
+use model_types::memory::Memory;
 
 // Between two pieces: the memory, how many bytes of a line are kept, and the next line's number.
 pub struct Run {

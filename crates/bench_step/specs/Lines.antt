@@ -2,7 +2,7 @@
 use Prim.Native.Nat.{ℕ, suc, _+_, _*_, _≤_}
 use mathlib.Core.List.{List, []}
 use lib.ListN.{length, take, drop}
-use Rattle.types.specs.declared.memory.Memory.{Memory}
+use Rattle.model_types.specs.declared.memory.Memory.{Memory}
 use Rattle.model.specs.Bench.{maxLines}
 use Rattle.bench_answer.specs.Put.{maxAnswer}
 use Rattle.bench_step.specs.declared.lines.Lines.{Lines}

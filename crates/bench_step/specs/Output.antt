@@ -3,7 +3,7 @@ use Prim.Native.Nat.{ℕ, suc, _-_}
 use mathlib.Core.Path.{_≡_}
 use mathlib.Core.List.{List, _++_}
 use lib.ListN.{take}
-use Rattle.types.specs.declared.memory.Memory.{Memory}
+use Rattle.model_types.specs.declared.memory.Memory.{Memory}
 use Rattle.model.specs.Bench.{Bench, benchOf, maxLines, linesFrom, outputFrom}
 
 -- the answers still to be printed: line is what stands since the last byte 10, number is the next line's, from 1 on, and

@@ -7,10 +7,10 @@ ghost use Rattle.model.specs.Calls.Committing.{commitAnswer, commitMemory};
 ghost use Rattle.commit.specs.Due.{dueFor};
 use bitmap::Bitmap;
 use bitops::compare::changed;
-use types::answer::Stored;
-use types::memory::Memory;
-use types::memory::Pending;
-use types::memory::Slot;
+use model_types::answer::Stored;
+use model_types::memory::Memory;
+use model_types::memory::Pending;
+use model_types::memory::Slot;
 use validity::valid;
 use verdicts::ready::precommitted;
 

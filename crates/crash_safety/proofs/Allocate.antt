@@ -11,11 +11,11 @@ use lib.Seq.{take-at}
 use Rattle.bitmap.specs.Blocks.{member}
 use Rattle.bitmap.proofs.Laws.Bits.{noBits-bit, bitmapOf-bits}
 use Rattle.bitmap.proofs.Laws.Blocks.{member-append}
-use Rattle.types.specs.declared.error.Error.{Error}
-use Rattle.types.specs.declared.memory.Memory.{Memory}
-use Rattle.types.specs.declared.memory.Slot.{Slot}
+use Rattle.model_types.specs.declared.error.Error.{Error}
+use Rattle.model_types.specs.declared.memory.Memory.{Memory}
+use Rattle.model_types.specs.declared.memory.Slot.{Slot}
 use Rattle.model.specs.First.{unlessRefused}
-use Rattle.types.specs.Memory.{slotAt, withTam, isActive, samBit, comBit, tamBit, volumeBitmap}
+use Rattle.model_types.specs.Memory.{slotAt, withTam, isActive, samBit, comBit, tamBit, volumeBitmap}
 use Rattle.model.specs.Causes.{available}
 use Rattle.model.specs.Valid.{touched, touches}
 use Rattle.model.specs.Calls.Allocate.{allocateError, lowest, taking, allocateMemory, allocateAnswer, allocateList}

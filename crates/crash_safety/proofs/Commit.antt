@@ -11,9 +11,9 @@ use borrow.Author.Tests.{eqb-true}
 use Rattle.bitmap.specs.Bits.{bit, IsBitmap}
 use Rattle.bitmap.specs.Blocks.{member}
 use Rattle.bitmap.proofs.Laws.Blocks.{member-append}
-use Rattle.types.specs.declared.memory.Memory.{Memory}
-use Rattle.types.specs.declared.memory.Pending.the-variants.{Commit}
-use Rattle.types.specs.Memory.{slotAt, isActive, samBit, tamBit, withPending}
+use Rattle.model_types.specs.declared.memory.Memory.{Memory}
+use Rattle.model_types.specs.declared.memory.Pending.the-variants.{Commit}
+use Rattle.model_types.specs.Memory.{slotAt, isActive, samBit, tamBit, withPending}
 use Rattle.model.specs.Stores.{Store, writes}
 use Rattle.model.specs.Commit.{committedSam, entriesOf, changedOf, commitDue, committed}
 use Rattle.model.specs.Calls.Committing.{commitError, committing, commitAnswer, commitMemory}

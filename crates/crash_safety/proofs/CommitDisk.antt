@@ -6,7 +6,7 @@ use mathlib.Core.Option.{none}
 use mathlib.Core.List.{List}
 use lib.ListN.{length, take, drop}
 use Rattle.bitmap.specs.Bits.{IsBitmap}
-use Rattle.types.specs.declared.memory.Memory.{Memory}
+use Rattle.model_types.specs.declared.memory.Memory.{Memory}
 use Rattle.model.specs.Sizes.{diskWords, logAt}
 use Rattle.model.specs.Stores.{Store, writes, after, commitPoint, closingStores, commitStores}
 use Rattle.model.specs.Commit.{committedSam, entriesOf, changedOf}

@@ -8,8 +8,8 @@ use mathlib.Core.List.{List, _++_}
 use lib.ListN.{length, set}
 use Rattle.bitmap.specs.Blocks.{member}
 use Rattle.bitmap.proofs.Laws.Blocks.{member-append}
-use Rattle.types.specs.declared.memory.Memory.{Memory}
-use Rattle.types.specs.Memory.{slotAt, isActive, samBit, tamBit}
+use Rattle.model_types.specs.declared.memory.Memory.{Memory}
+use Rattle.model_types.specs.Memory.{slotAt, isActive, samBit, tamBit}
 use Rattle.crash_safety.specs.Ledger.{noSets, Ledger, Counting, setsOf, without, commits, holders, takers}
 use Rattle.crash_safety.proofs.Holders.{one, one-le, takers-set, member-without}
 use Rattle.crash_safety.proofs.Invariant.{Plain}

@@ -13,9 +13,9 @@ use Rattle.bitmap.specs.Sizes.{slotCount}
 use Rattle.bitmap.specs.Bits.{bit}
 use Rattle.bitmap.specs.Blocks.{member}
 use Rattle.bitmap.proofs.Laws.Bits.{bit-from}
-use Rattle.types.specs.declared.memory.Memory.{Memory}
-use Rattle.types.specs.declared.memory.Slot.{Slot}
-use Rattle.types.specs.Memory.{slotAt, idleSlot, isActive, samBit, tamBit}
+use Rattle.model_types.specs.declared.memory.Memory.{Memory}
+use Rattle.model_types.specs.declared.memory.Slot.{Slot}
+use Rattle.model_types.specs.Memory.{slotAt, idleSlot, isActive, samBit, tamBit}
 use Rattle.model.specs.Commit.{committedSam, refreshed, committed}
 use Rattle.crash_safety.specs.Ledger.{Sets, Ledger, setsOf}
 use Rattle.model.proofs.Laws.Valid.{ValidParts}

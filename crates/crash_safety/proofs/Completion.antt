@@ -7,14 +7,14 @@ use mathlib.Core.Option.{Option, none}
 use lib.ListN.{replicate}
 use lib.Dec.{eqb}
 use borrow.Author.Tests.{eqb-true}
-use Rattle.types.specs.declared.error.Error.{Error}
-use Rattle.types.specs.declared.memory.Memory.{Memory}
-use Rattle.types.specs.declared.memory.Pending.{Pending}
-use Rattle.types.specs.declared.memory.Pending.the-variants.{Nothing, Commit, Recovery}
+use Rattle.model_types.specs.declared.error.Error.{Error}
+use Rattle.model_types.specs.declared.memory.Memory.{Memory}
+use Rattle.model_types.specs.declared.memory.Pending.{Pending}
+use Rattle.model_types.specs.declared.memory.Pending.the-variants.{Nothing, Commit, Recovery}
 use Rattle.model.specs.First.{unlessRefused}
-use Rattle.types.specs.Memory.{withPending}
+use Rattle.model_types.specs.Memory.{withPending}
 use Rattle.model.specs.Commit.{committed}
-use Rattle.types.specs.Pending.{isNothing}
+use Rattle.model_types.specs.Pending.{isNothing}
 use Rattle.model.specs.Pending.{storesDone, storesDue, oneMoreDone, finished, storesLeft}
 use Rattle.model.specs.Valid.{pendingValid}
 use Rattle.model.specs.Calls.Storing.{storeError, advanced, storeMemory}

@@ -10,11 +10,11 @@ use borrow.Author.Tests.{ltb-true, ltb-false}
 use Rattle.bitmap.specs.Sizes.{maxBlocks, slotCount}
 use Rattle.bitmap.specs.Bits.{bit}
 use Rattle.bitmap.specs.Blocks.{member}
-use Rattle.types.specs.declared.memory.Memory.{Memory}
-use Rattle.types.specs.declared.memory.Pending.{Pending}
-use Rattle.types.specs.declared.memory.Pending.the-variants.{Nothing, Commit, Recovery}
+use Rattle.model_types.specs.declared.memory.Memory.{Memory}
+use Rattle.model_types.specs.declared.memory.Pending.{Pending}
+use Rattle.model_types.specs.declared.memory.Pending.the-variants.{Nothing, Commit, Recovery}
 use Rattle.model.specs.Sizes.{diskWords}
-use Rattle.types.specs.Memory.{slotAt, samBit, tamBit}
+use Rattle.model_types.specs.Memory.{slotAt, samBit, tamBit}
 use Rattle.model.specs.Commit.{changedOf}
 use Rattle.model.specs.Valid.{pendingValid}
 use Rattle.model.specs.Calls.Format.{formatDisk}

@@ -10,13 +10,13 @@ use lib.Dec.{eqb}
 use Rattle.bitmap.specs.Sizes.{slotCount, blocksInRange}
 use Rattle.bitmap.specs.Bits.{bit}
 use Rattle.bitmap.specs.Blocks.{member}
-use Rattle.types.specs.declared.error.Error.{Error}
-use Rattle.types.specs.declared.memory.Memory.{Memory}
-use Rattle.types.specs.declared.memory.Slot.{Slot}
-use Rattle.types.specs.declared.memory.Pending.{Pending}
-use Rattle.types.specs.Memory.{zeroMemory, idleSlot, quietMemory, bitmap}
+use Rattle.model_types.specs.declared.error.Error.{Error}
+use Rattle.model_types.specs.declared.memory.Memory.{Memory}
+use Rattle.model_types.specs.declared.memory.Slot.{Slot}
+use Rattle.model_types.specs.declared.memory.Pending.{Pending}
+use Rattle.model_types.specs.Memory.{zeroMemory, idleSlot, quietMemory, bitmap}
 use Rattle.model.specs.First.{unlessRefused}
-use Rattle.types.specs.Answers.{storesNumber, statusNumber}
+use Rattle.model_types.specs.Answers.{storesNumber, statusNumber}
 use Rattle.model.specs.Valid.{valid}
 use Rattle.model.specs.Disk.{diskBlocks, logLength, durable}
 use Rattle.model.specs.Calls.Opening.{openError, recoveryDue, recoveryPending, opened, openAnswer, openMemory}

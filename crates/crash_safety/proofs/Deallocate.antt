@@ -10,9 +10,9 @@ use borrow.Author.Tests.{eqb-true}
 use Rattle.bitmap.specs.Blocks.{member}
 use Rattle.bitmap.proofs.Laws.Bits.{noBits-bit, bitmapOf-bits}
 use Rattle.bitmap.proofs.Laws.Blocks.{member-append}
-use Rattle.types.specs.declared.memory.Memory.{Memory}
-use Rattle.types.specs.declared.memory.Slot.{Slot}
-use Rattle.types.specs.Memory.{slotAt, withTam, isActive, samBit, comBit, tamBit, volumeBitmap}
+use Rattle.model_types.specs.declared.memory.Memory.{Memory}
+use Rattle.model_types.specs.declared.memory.Slot.{Slot}
+use Rattle.model_types.specs.Memory.{slotAt, withTam, isActive, samBit, comBit, tamBit, volumeBitmap}
 use Rattle.model.specs.Calls.Deallocate.{deallocateError, freeing, deallocateMemory, deallocateAnswer}
 use Rattle.model.specs.Outcome.{outcome, deallocateCall}
 use Rattle.model.proofs.Laws.Numbers.{done-number}

@@ -8,11 +8,11 @@ use lib.ListN.{length, getD}
 use Rattle.bitmap.specs.Sizes.{wordBits, slotCount}
 use Rattle.bitmap.specs.Bits.{bit, IsBitmap}
 use Rattle.bitmap.specs.Blocks.{member}
-use Rattle.types.specs.declared.memory.Memory.{Memory}
-use Rattle.types.specs.declared.memory.Slot.{Slot}
-use Rattle.types.specs.declared.memory.Pending.{Pending}
-use Rattle.types.specs.declared.memory.Pending.the-variants.{Nothing, Commit, Recovery}
-use Rattle.types.specs.Memory.{slotAt, isActive, samBit, tamBit}
+use Rattle.model_types.specs.declared.memory.Memory.{Memory}
+use Rattle.model_types.specs.declared.memory.Slot.{Slot}
+use Rattle.model_types.specs.declared.memory.Pending.{Pending}
+use Rattle.model_types.specs.declared.memory.Pending.the-variants.{Nothing, Commit, Recovery}
+use Rattle.model_types.specs.Memory.{slotAt, isActive, samBit, tamBit}
 use Rattle.model.specs.Commit.{committedSam, changedOf}
 use Rattle.model.specs.Valid.{valid}
 use Rattle.model.specs.Disk.{durable}

@@ -11,7 +11,7 @@ use Rattle.model.specs.Sizes.{diskWords, logWords}
 use Rattle.bitmap.specs.Bits.{bit}
 use Rattle.bitmap.specs.Blocks.{member}
 use Rattle.bitmap.proofs.Laws.Bits.{bit-empty}
-use Rattle.types.specs.declared.error.Error.{Error}
+use Rattle.model_types.specs.declared.error.Error.{Error}
 use Rattle.model.specs.First.{unlessRefused}
 use Rattle.model.specs.Disk.{durable}
 use Rattle.crash_safety.specs.Ledger.{holders}
@@ -21,7 +21,7 @@ use Rattle.model.specs.Outcome.{Call, openCall, startCall, allocateCall, deallo
 use Rattle.crash_safety.specs.World.{World, begin, step, run}
 use Rattle.model.proofs.Laws.Accepted.{accepted-format}
 use Rattle.model.proofs.Laws.DiskParts.{blocks-inRange, none-told, diskOf-quiet, quiet-opens}
-use Rattle.types.proofs.Laws.Shape.{zeros-small}
+use Rattle.model_types.proofs.Laws.Shape.{zeros-small}
 use Rattle.model.proofs.Laws.Valid.{noBits-empty}
 use Rattle.crash_safety.proofs.Holders.{takers-crashed}
 use Rattle.crash_safety.proofs.Invariant.{Invariant, Small}

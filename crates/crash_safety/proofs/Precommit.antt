@@ -2,9 +2,9 @@
 use Prim.Native.Nat.{ℕ}
 use mathlib.Core.Path.{_≡_}
 use mathlib.Core.Bool.{Bool, true}
-use Rattle.types.specs.declared.memory.Slot.{Slot}
-use Rattle.types.specs.declared.memory.SlotState.the-variants.{Precommitted}
-use Rattle.types.specs.Memory.{withState, slotAt, isActive, samBit}
+use Rattle.model_types.specs.declared.memory.Slot.{Slot}
+use Rattle.model_types.specs.declared.memory.SlotState.the-variants.{Precommitted}
+use Rattle.model_types.specs.Memory.{withState, slotAt, isActive, samBit}
 use Rattle.model.specs.Calls.Precommit.{precommitError, precommitting, precommitMemory, precommitAnswer}
 use Rattle.model.specs.Outcome.{outcome, precommitCall}
 use Rattle.model.proofs.Laws.Numbers.{done-number}

@@ -5,9 +5,9 @@ use mathlib.Core.Bool.{Bool, cond}
 use mathlib.Core.Option.{Option, none, some}
 use mathlib.Core.List.{List}
 use lib.Dec.{eqb}
-use Rattle.types.specs.declared.memory.Memory.{Memory}
-use Rattle.types.specs.declared.error.Error.{Error}
-use Rattle.types.specs.Errors.{code}
+use Rattle.model_types.specs.declared.memory.Memory.{Memory}
+use Rattle.model_types.specs.declared.error.Error.{Error}
+use Rattle.model_types.specs.Errors.{code}
 use Rattle.model.specs.First.{unlessRefused}
 use Rattle.model.proofs.Laws.Numbers.{numberOf, code-positive}
 use Rattle.crash_safety.specs.Ledger.{Event, Ledger, enter, entered}

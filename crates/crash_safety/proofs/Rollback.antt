@@ -5,7 +5,7 @@ use mathlib.Core.Path.{refl}
 use mathlib.Core.Bool.{Bool}
 use lib.ListN.{length}
 use Rattle.bitmap.specs.Blocks.{member}
-use Rattle.types.specs.Memory.{idleSlot, samBit}
+use Rattle.model_types.specs.Memory.{idleSlot, samBit}
 use Rattle.model.specs.Calls.Rollback.{rollbackError, rolledBackCom, rolledBack, rollbackMemory, rollbackAnswer}
 use Rattle.model.specs.Outcome.{outcome, rollbackCall}
 use Rattle.model.proofs.Laws.Numbers.{done-number}

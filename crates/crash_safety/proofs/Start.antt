@@ -2,9 +2,9 @@
 use Prim.Native.Nat.{ℕ}
 use mathlib.Core.Path.{_≡_, refl, sym, ap, _∙_}
 use mathlib.Core.Bool.{Bool, true, false, not, _&&_, and-not-self}
-use Rattle.types.specs.declared.memory.Slot.{Slot}
-use Rattle.types.specs.declared.memory.SlotState.the-variants.{Open}
-use Rattle.types.specs.Memory.{withState, withTam, slotAt, isActive, samBit, tamBit}
+use Rattle.model_types.specs.declared.memory.Slot.{Slot}
+use Rattle.model_types.specs.declared.memory.SlotState.the-variants.{Open}
+use Rattle.model_types.specs.Memory.{withState, withTam, slotAt, isActive, samBit, tamBit}
 use Rattle.model.specs.Calls.Start.{startError, started, startMemory, startAnswer}
 use Rattle.model.specs.Outcome.{outcome, startCall}
 use Rattle.model.proofs.Laws.Numbers.{done-number}

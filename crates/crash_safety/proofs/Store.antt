@@ -2,11 +2,11 @@
 use mathlib.Core.Path.{_≡_}
 use mathlib.Core.Bool.{true, false, true≢false}
 use lib.ListN.{length, take, drop}
-use Rattle.types.specs.declared.memory.Pending.{Pending}
-use Rattle.types.specs.declared.memory.Pending.the-variants.{Nothing, Commit, Recovery}
+use Rattle.model_types.specs.declared.memory.Pending.{Pending}
+use Rattle.model_types.specs.declared.memory.Pending.the-variants.{Nothing, Commit, Recovery}
 use Rattle.model.specs.Sizes.{diskWords}
 use Rattle.model.specs.Stores.{writes, checkpointStores}
-use Rattle.types.specs.Pending.{isNothing}
+use Rattle.model_types.specs.Pending.{isNothing}
 use Rattle.model.specs.Pending.{storesDone}
 use Rattle.model.specs.Valid.{valid, pendingValid}
 use Rattle.model.specs.Disk.{dueStores, diskMatches}

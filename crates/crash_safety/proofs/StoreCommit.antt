@@ -15,11 +15,11 @@ use Rattle.bitmap.specs.Sizes.{slotCount}
 use Rattle.bitmap.specs.Bits.{bit, IsBitmap}
 use Rattle.bitmap.specs.Blocks.{member}
 use Rattle.bitmap.specs.declared.Bitmap.{Bitmap}
-use Rattle.types.specs.declared.memory.Memory.{Memory}
-use Rattle.types.specs.declared.memory.Pending.{Pending}
-use Rattle.types.specs.declared.memory.Pending.the-variants.{Commit}
+use Rattle.model_types.specs.declared.memory.Memory.{Memory}
+use Rattle.model_types.specs.declared.memory.Pending.{Pending}
+use Rattle.model_types.specs.declared.memory.Pending.the-variants.{Commit}
 use Rattle.model.specs.Sizes.{diskWords}
-use Rattle.types.specs.Memory.{slotAt, isActive, samBit, withPending}
+use Rattle.model_types.specs.Memory.{slotAt, isActive, samBit, withPending}
 use Rattle.model.specs.Stores.{writes, after, commitStores}
 use Rattle.model.specs.Commit.{committedSam, entriesOf, changedOf, committed}
 use Rattle.model.specs.Pending.{storesDone, storesDue, oneMoreDone, finished}

@@ -11,8 +11,8 @@ use lib.Dec.{eqb}
 use Rattle.bitmap.specs.Sizes.{slotCount}
 use Rattle.bitmap.specs.Bits.{bit, IsBitmap}
 use Rattle.bitmap.specs.Blocks.{member}
-use Rattle.types.specs.declared.memory.Pending.the-variants.{Nothing, Recovery}
-use Rattle.types.specs.Memory.{withPending}
+use Rattle.model_types.specs.declared.memory.Pending.the-variants.{Nothing, Recovery}
+use Rattle.model_types.specs.Memory.{withPending}
 use Rattle.model.specs.Pending.{storesDone, storesDue, oneMoreDone, finished}
 use Rattle.model.specs.Stores.{Store, closingStores, checkpointWith}
 use Rattle.model.specs.Disk.{diskBitmap, logLength, logEntries, durable}

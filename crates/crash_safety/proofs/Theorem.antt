@@ -7,9 +7,9 @@ use mathlib.Core.Option.{Option, none}
 use mathlib.Core.List.{List}
 use Rattle.bitmap.specs.Bits.{bit}
 use Rattle.bitmap.specs.Blocks.{member}
-use Rattle.types.specs.declared.error.Error.{Error}
-use Rattle.types.specs.declared.memory.Memory.{Memory}
-use Rattle.types.specs.Answers.{due, storesValue}
+use Rattle.model_types.specs.declared.error.Error.{Error}
+use Rattle.model_types.specs.declared.memory.Memory.{Memory}
+use Rattle.model_types.specs.Answers.{due, storesValue}
 use Rattle.model.specs.Pending.{storesDone, storesDue, storesLeft}
 use Rattle.model.specs.Disk.{diskBitmap, logLength, durable, diskMatches}
 use Rattle.model.specs.Calls.Format.{formatDisk}

@@ -11,9 +11,9 @@ use lib.ListN.{length, getD, set, length-set}
 use lib.Seq.{getD-set-same, getD-set-other, set-getD}
 use Rattle.bitmap.specs.declared.Bitmap.{Bitmap}
 use Rattle.bitmap.specs.Blocks.{member}
-use Rattle.types.specs.declared.memory.Memory.{Memory}
-use Rattle.types.specs.declared.memory.Slot.{Slot}
-use Rattle.types.specs.Memory.{withCom, withSlot, idleSlot, isActive, samBit, tamBit}
+use Rattle.model_types.specs.declared.memory.Memory.{Memory}
+use Rattle.model_types.specs.declared.memory.Slot.{Slot}
+use Rattle.model_types.specs.Memory.{withCom, withSlot, idleSlot, isActive, samBit, tamBit}
 use Rattle.model.proofs.Laws.Fields.{slots-length}
 use Rattle.model.proofs.Laws.Accepted.{Ready}
 use Rattle.crash_safety.specs.Ledger.{Sets, noSets, Ledger, setsOf, withAllSets, withSets, holders}

@@ -10,10 +10,10 @@ use mathlib.Core.Bool.{true}
 use mathlib.Core.List.{List, [], _∷_}
 use lib.ListN.{length}
 use Rattle.bitmap.specs.Sizes.{maxBlocks}
-use Rattle.types.specs.declared.memory.Memory.{Memory}
-use Rattle.types.specs.declared.memory.Pending.the-variants.{Nothing}
+use Rattle.model_types.specs.declared.memory.Memory.{Memory}
+use Rattle.model_types.specs.declared.memory.Pending.the-variants.{Nothing}
 use Rattle.model.specs.Sizes.{diskWords}
-use Rattle.types.specs.Memory.{zeroMemory}
+use Rattle.model_types.specs.Memory.{zeroMemory}
 use Rattle.model.specs.Valid.{valid}
 use Rattle.model.specs.Disk.{diskMatches}
 use Rattle.model.specs.Pending.{storesLeft}

@@ -14,7 +14,7 @@ use Rattle.bitmap.specs.Bits.{bit}
 use Rattle.bitmap.specs.Blocks.{member}
 use Rattle.model.specs.Sizes.{diskWords}
 use Rattle.model.specs.Disk.{diskBitmap}
-use Rattle.types.specs.Answers.{storesValue}
+use Rattle.model_types.specs.Answers.{storesValue}
 use Rattle.model.specs.Calls.Format.{formatDisk}
 use Rattle.model.specs.Calls.Opening.{openError, openAnswer, openMemory}
 use Rattle.model.specs.Completion.{StoresAccepted, afterStores}

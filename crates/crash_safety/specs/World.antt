@@ -1,8 +1,8 @@
 -- The world that calls are made in, and a run of a list of calls.
 use Prim.Native.Nat.{ℕ}
 use mathlib.Core.List.{List, [], _∷_}
-use Rattle.types.specs.declared.memory.Memory.{Memory}
-use Rattle.types.specs.Memory.{zeroMemory}
+use Rattle.model_types.specs.declared.memory.Memory.{Memory}
+use Rattle.model_types.specs.Memory.{zeroMemory}
 use Rattle.model.specs.Outcome.{Call, Outcome, outcome, openCall, startCall, allocateCall, deallocateCall, precommitCall, commitCall, rollbackCall, storeCall, statusCall, crashCall}
 use Rattle.crash_safety.specs.Ledger.{Ledger, Event, Kind, emptyLedger, enterAll, crashEvent, opening, starting, allocating, deallocating, precommitting, committing, rolling, storing, asking}
 

@@ -4,7 +4,7 @@ use mathlib.Core.Bool.{not, _&&_}
 use mathlib.Core.List.{List, [], _∷_}
 use lib.Dec.{leb}
 use Rattle.bitmap.specs.Bits.{bit}
-use Rattle.types.specs.declared.error.Error.the-variants.{BlockRange, BlockFree, BlockFreeing}
+use Rattle.model_types.specs.declared.error.Error.the-variants.{BlockRange, BlockFree, BlockFreeing}
 use Rattle.model.specs.First.{Cause, _⇒_}
 
 -- 18, 19 and 20

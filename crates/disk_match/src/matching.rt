@@ -4,7 +4,7 @@ ghost use Prim.Native.Nat.{_<_};
 ghost use lib.ListN.{length};
 ghost use Rattle.bitmap.specs.Bits.{IsBitmap};
 ghost use Rattle.model.specs.Sizes.{diskWords};
-ghost use Rattle.types.specs.Pending.{storesFor};
+ghost use Rattle.model_types.specs.Pending.{storesFor};
 ghost use Rattle.model.specs.Stores.{after, changes, commitStores};
 ghost use Rattle.model.specs.Valid.{sameWords};
 ghost use Rattle.model.specs.Disk.{baseImage};
@@ -15,7 +15,7 @@ use crate::written::changed_match;
 use crate::written::kept_match;
 use bitops::compare::same;
 use disk_log::sam::bitmap;
-use types::memory::Pending;
+use model_types::memory::Pending;
 
 // With nothing pending: an empty log, and SAM.
 pub fn settled_matches(disk: &[u32], blocks: u32, sam: &[u32; 128]) -> bool

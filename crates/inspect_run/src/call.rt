@@ -10,14 +10,14 @@ use commit::commit;
 use deallocate::deallocate;
 use inspect_state::fixture::Fixture;
 use inspect_state::fixture::Step;
+use model_types::line::Line;
+use model_types::line::Op;
+use model_types::memory::Memory;
 use precommit::precommit;
 use rollback::rollback;
 use start::start;
 use status::status;
 use store::store;
-use types::line::Line;
-use types::line::Op;
-use types::memory::Memory;
 use volume::format::format;
 use volume::open::open;
 

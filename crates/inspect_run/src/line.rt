@@ -8,8 +8,8 @@ use inspect_state::alter::alter;
 use inspect_state::fixture::Fixture;
 use inspect_state::fixture::Step;
 use inspect_state::further;
+use model_types::line::Parsed;
 use printing::place;
-use types::line::Parsed;
 
 // What a line leaves: the fixture, and the end of what waits to be written.
 pub(crate) struct Printed {

@@ -1,9 +1,9 @@
 // What a call leaves: the memory, and the answer and value that are printed.
-use types::answer::Changed;
-use types::answer::Granted;
-use types::answer::Measured;
-use types::answer::Stored;
-use types::memory::Memory;
+use model_types::answer::Changed;
+use model_types::answer::Granted;
+use model_types::answer::Measured;
+use model_types::answer::Stored;
+use model_types::memory::Memory;
 
 pub(crate) struct Next {
     pub memory: Memory,

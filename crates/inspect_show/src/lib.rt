@@ -3,12 +3,12 @@ ghost use Rattle.printing.specs.Waits.{Waits};
 ghost use Rattle.inspect_state.specs.Sized.{Sized};
 use bitmap::Bitmap;
 use inspect_state::fixture::Fixture;
+use model_types::memory::Memory;
+use model_types::memory::Pending;
+use model_types::memory::SlotState;
 use printing::end_line;
 use printing::put;
 use printing::put_field;
-use types::memory::Memory;
-use types::memory::Pending;
-use types::memory::SlotState;
 
 // A word with its index, unless it is 0.
 fn put_word(out: &mut [u8], at: usize, index: usize, word: u32) -> usize

@@ -3,9 +3,9 @@ ghost use Rattle.inspect_state.specs.Sized.{Sized};
 use crate::fixture::Fixture;
 use crate::fixture::Step;
 use bitmap::Bitmap;
-use types::memory::Pending;
-use types::memory::Slot;
-use types::memory::SlotState;
+use model_types::memory::Pending;
+use model_types::memory::Slot;
+use model_types::memory::SlotState;
 
 // The last number of a slot's state, and of a pending work.
 const LAST_KIND: u32 = 2;

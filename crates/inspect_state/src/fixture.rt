@@ -1,7 +1,7 @@
 // The fixture: what the calls are lent, and what one line leaves to the next.
 ghost use Rattle.inspect_state.specs.Sized.{Sized};
-use types::error::Error;
-use types::memory::Memory;
+use model_types::error::Error;
+use model_types::memory::Memory;
 use volume::format::DISK_WORDS;
 
 // The longest disk.

@@ -6,11 +6,11 @@ use lib.ListN.{length, take, replicate}
 use lib.Dec.{eqb}
 use Rattle.bitmap.specs.Sizes.{maxCount}
 use Rattle.model.specs.Types.{Memory, LineMalformed}
-use Rattle.types.specs.declared.line.Op.{Op}
-use Rattle.types.specs.declared.line.Parsed.{Parsed}
+use Rattle.model_types.specs.declared.line.Op.{Op}
+use Rattle.model_types.specs.declared.line.Parsed.{Parsed}
 use Rattle.model.specs.Sizes.{diskWords}
-use Rattle.types.specs.Errors.{code}
-use Rattle.types.specs.Memory.{zeroMemory}
+use Rattle.model_types.specs.Errors.{code}
+use Rattle.model_types.specs.Memory.{zeroMemory}
 use Rattle.model.specs.Line.{newline, parseLine, answerLine}
 use Rattle.model.specs.Outcome.{Outcome, outcome, formatOutcome, openCall, startCall, allocateCall, deallocateCall, precommitCall, commitCall, rollbackCall, storeCall, statusCall, crashCall}
 

@@ -9,9 +9,9 @@ use Rattle.bitmap.specs.Bits.{noBitsFrom}
 use Rattle.bitmap.specs.Blocks.{availableBlocks}
 use Rattle.model.specs.Types.{Memory}
 use Rattle.model.specs.Sizes.{diskWords}
-use Rattle.types.specs.Memory.{slotAt, isActive, isPrecommitted, samBit, comBit}
+use Rattle.model_types.specs.Memory.{slotAt, isActive, isPrecommitted, samBit, comBit}
 use Rattle.model.specs.Valid.{valid}
-use Rattle.types.specs.Pending.{isNothing}
+use Rattle.model_types.specs.Pending.{isNothing}
 use Rattle.model.specs.Disk.{diskBlocks, diskBitmap, logValid, diskMatches}
 
 -- 1, "memory not fit"

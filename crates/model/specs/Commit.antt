@@ -7,7 +7,7 @@ use lib.Dec.{eqb}
 use Rattle.bitmap.specs.Bits.{bit}
 use Rattle.bitmap.specs.Majority.{majority}
 use Rattle.model.specs.Types.{Bitmap, Slot, Nothing, Memory}
-use Rattle.types.specs.Memory.{withSam, withSlots, withPending, withTam, idleSlot, slotAt, samBit, comBit, tamBit, volumeBitmap, isActive}
+use Rattle.model_types.specs.Memory.{withSam, withSlots, withPending, withTam, idleSlot, slotAt, samBit, comBit, tamBit, volumeBitmap, isActive}
 use Rattle.model.specs.Stores.{Store, changes, commitStores}
 
 -- "SAM becomes, bit by bit, the majority of SAM, COM and TAM (table 3)."

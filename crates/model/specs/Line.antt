@@ -6,8 +6,8 @@ use mathlib.Core.Option.{Option, none, some}
 use mathlib.Core.List.{List, [], _∷_, _++_}
 use lib.ListN.{length}
 use lib.Dec.{leb, ltb, eqb}
-use Rattle.types.specs.declared.line.Op.{Op}
-use Rattle.types.specs.declared.line.Parsed.{Parsed}
+use Rattle.model_types.specs.declared.line.Op.{Op}
+use Rattle.model_types.specs.declared.line.Parsed.{Parsed}
 
 -- the most bytes of a line
 abbrev pub maxLine : ℕ

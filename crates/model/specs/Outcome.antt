@@ -3,8 +3,8 @@ use Prim.Native.Nat.{ℕ}
 use mathlib.Core.List.{List, []}
 use lib.ListN.{take}
 use Rattle.model.specs.Types.{Memory}
-use Rattle.types.specs.Memory.{zeroMemory}
-use Rattle.types.specs.Answers.{doneNumber, grantNumber, grantValue, storesNumber, storesValue, statusNumber, statusValue}
+use Rattle.model_types.specs.Memory.{zeroMemory}
+use Rattle.model_types.specs.Answers.{doneNumber, grantNumber, grantValue, storesNumber, storesValue, statusNumber, statusValue}
 use Rattle.model.specs.Calls.Format.{formatAnswer, formatDisk}
 use Rattle.model.specs.Calls.Opening.{openAnswer, openMemory}
 use Rattle.model.specs.Calls.Start.{startAnswer, startMemory}

@@ -1,7 +1,7 @@
 -- Pending work by its parts, one line a kind: its stores done and due, one more done, and what its last store finishes.
 use Prim.Native.Nat.{ℕ, _+_, _-_}
 use Rattle.model.specs.Types.{Pending, Nothing, Commit, Recovery, Memory}
-use Rattle.types.specs.Memory.{withPending}
+use Rattle.model_types.specs.Memory.{withPending}
 use Rattle.model.specs.Commit.{committed}
 
 -- the stores done so far

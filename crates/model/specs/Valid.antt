@@ -7,7 +7,7 @@ use Rattle.bitmap.specs.Sizes.{blocksInRange}
 use Rattle.bitmap.specs.Bits.{noBitsFrom}
 use Rattle.bitmap.specs.Blocks.{allBelow}
 use Rattle.model.specs.Types.{Slot, Pending, Nothing, Commit, Recovery, Memory}
-use Rattle.types.specs.Memory.{slotAt, isActive, isPrecommitted, samBit, comBit, tamBit, emptyBitmap, volumeWords}
+use Rattle.model_types.specs.Memory.{slotAt, isActive, isPrecommitted, samBit, comBit, tamBit, emptyBitmap, volumeWords}
 use Rattle.model.specs.Commit.{changedOf, commitDue}
 
 -- whether two lists of words are the same

@@ -3,7 +3,7 @@ ghost use Prim.Native.Nat.{_+_, _*_, _≤_, _<_};
 ghost use lib.ListN.{length};
 ghost use Rattle.bitmap.specs.Bits.{IsBitmap};
 ghost use Rattle.model.specs.Sizes.{logAt};
-ghost use Rattle.types.specs.Pending.{storesFor};
+ghost use Rattle.model_types.specs.Pending.{storesFor};
 ghost use Rattle.model.specs.Stores.{changes, commitStores, checkpointStores};
 ghost use Rattle.model.specs.Disk.{logLength, logEntries};
 ghost use Rattle.disk_log.specs.Given.{Changing, Logged};

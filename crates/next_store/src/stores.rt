@@ -6,12 +6,12 @@ ghost use lib.ListN.{length, take, drop};
 ghost use Rattle.bitmap.specs.Sizes.{maxBlocks};
 ghost use Rattle.bitmap.specs.Bits.{IsBitmap};
 ghost use Rattle.model.specs.Sizes.{diskWords};
-ghost use Rattle.types.specs.Pending.{storesFor};
+ghost use Rattle.model_types.specs.Pending.{storesFor};
 ghost use Rattle.model.specs.Stores.{writes, changes, commitStores, checkpointStores};
 ghost use Rattle.model.specs.Disk.{diskBlocks, logLength, logEntries, logValid};
 use crate::next::commit_next;
 use crate::next::recovery_next;
-use types::memory::Pending;
+use model_types::memory::Pending;
 
 // Makes the next store of a commit from SAM to a new one: one word of the disk, and no other.
 pub fn store_commit(disk: &mut [u32], sam: &[u32; 128], new: &[u32; 128], done: u32, due: u32)

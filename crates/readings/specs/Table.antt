@@ -7,14 +7,14 @@ use mathlib.Core.List.{List, [], _∷_}
 use lib.ListN.{getD, take, replicate}
 use Rattle.bitmap.specs.declared.Bitmap.{Bitmap}
 use Rattle.bitmap.specs.Sizes.{bitmapWords, maxCount, wordsFor, blocksInRange, countInRange, slotInRange}
-use Rattle.types.specs.declared.memory.Pending.the-variants.{Nothing}
-use Rattle.types.specs.declared.answer.Counts.{Counts}
+use Rattle.model_types.specs.declared.memory.Pending.the-variants.{Nothing}
+use Rattle.model_types.specs.declared.answer.Counts.{Counts}
 use Rattle.model.specs.Sizes.{logWords}
 use Rattle.model.specs.Completion.{afterStores}
 use Rattle.bitmap.specs.Bits.{isSet, bit, wordOf, wordsOf, bitmapOf, noBitsFrom}
 use Rattle.bitmap.specs.Blocks.{scan, from, allocatedBlocks, isAvailable, availableBlocks, member, allBelow}
 use Rattle.bitmap.specs.Majority.{majority}
-use Rattle.types.specs.Answers.{done, granted, due, counted, doneNumber, grantNumber, storesNumber, storesValue}
+use Rattle.model_types.specs.Answers.{done, granted, due, counted, doneNumber, grantNumber, storesNumber, storesValue}
 use Rattle.model.specs.Calls.Allocate.{allocateError, lowest, taking, allocateAnswer, allocateMemory, allocateList}
 use Rattle.model.specs.Calls.Committing.{commitError, committing, commitAnswer, commitMemory}
 use Rattle.model.specs.Calls.Deallocate.{deallocateError, freeing, deallocateAnswer, deallocateMemory}
@@ -24,12 +24,12 @@ use Rattle.model.specs.Calls.Start.{startError, started, startAnswer, startMemo
 use Rattle.model.specs.Calls.Status.{statusError, allocated, activeSlots, counts, statusAnswer}
 use Rattle.model.specs.Calls.Storing.{storeError, stillDue, advanced, nextStored, storeAnswer, storeMemory, storeDisk}
 use Rattle.model.specs.Causes.{memoryInvalid, diskLengthWrong, diskBlocksWrong, diskBitmapWrong, diskLogWrong, diskMismatched, nothingPending, workPending, slotOutOfRange, slotActive, slotInactive, slotPrecommitted, slotNotPrecommitted, countOutOfRange, listShort, available, tooFewAvailable, blockOutOfRange, blockFree, blockFreeing}
-use Rattle.types.specs.Pending.{isNothing}
+use Rattle.model_types.specs.Pending.{isNothing}
 use Rattle.model.specs.Pending.{storesDone, storesDue, oneMoreDone, finished}
 use Rattle.model.specs.Commit.{committedSam, entriesOf, changedOf, commitDue, refreshed, committed}
 use Rattle.model.specs.Disk.{diskOf, lengthIn, entriesIn, logEntries, entriesValid, logValid, durable, dueStores, entriesAgree, recoveryMatches, diskMatches}
 use Rattle.model.specs.First.{firstOr, first, unlessRefused}
-use Rattle.types.specs.Memory.{quietMemory, bitmap, slotAt}
+use Rattle.model_types.specs.Memory.{quietMemory, bitmap, slotAt}
 use Rattle.model.specs.Stores.{writes, changesFrom, logStores, checkpointWith, journalWith, checkpointStores, commitStores, Store}
 use Rattle.model.specs.Valid.{touched, sameWords, allSlots, slotValid, touches, touchesAgree, isQuiet, pendingValid, valid}
 use Rattle.model.proofs.Laws.Rows.{sameRows, rows-same}

@@ -3,9 +3,9 @@ ghost use mathlib.Core.Path.{_≡_};
 ghost use Rattle.model.specs.Calls.Rollback.{rollbackAnswer, rollbackMemory};
 use bitmap::Bitmap;
 use bitops::combine;
-use types::answer::Changed;
-use types::memory::Memory;
-use types::memory::Slot;
+use model_types::answer::Changed;
+use model_types::memory::Memory;
+use model_types::memory::Slot;
 use validity::valid;
 use verdicts::ready::active;
 

@@ -2,10 +2,10 @@
 ghost use mathlib.Core.Path.{_≡_};
 ghost use Rattle.model.specs.Calls.Start.{startAnswer, startMemory};
 use bitmap::Bitmap;
-use types::answer::Changed;
-use types::memory::Memory;
-use types::memory::Slot;
-use types::memory::SlotState;
+use model_types::answer::Changed;
+use model_types::memory::Memory;
+use model_types::memory::Slot;
+use model_types::memory::SlotState;
 use validity::valid;
 use verdicts::ready::idle;
 

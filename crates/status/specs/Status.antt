@@ -1,8 +1,8 @@
 -- Status by what was tested and counted.
 use Prim.Native.Nat.{ℕ, _-_}
 use mathlib.Core.Bool.{Bool, true, false}
-use Rattle.types.specs.declared.error.Error.the-variants.{MemoryInvalid}
-use Rattle.types.specs.declared.answer.StatusAnswer.{StatusAnswer}
+use Rattle.model_types.specs.declared.error.Error.the-variants.{MemoryInvalid}
+use Rattle.model_types.specs.declared.answer.StatusAnswer.{StatusAnswer}
 
 -- the answer for a memory that is valid or isn't, with so many blocks, ones in SAM and active slots
 abbrev pub statusOf : Bool → ℕ → ℕ → ℕ → StatusAnswer

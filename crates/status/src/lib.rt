@@ -6,12 +6,12 @@ ghost use Rattle.model.specs.Calls.Status.{activeSlots, statusAnswer};
 ghost use Rattle.status.specs.Status.{statusOf};
 use available::count::count_ones;
 use bitmap::Bitmap;
-use types::answer::Counts;
-use types::answer::Measured;
-use types::answer::StatusAnswer;
-use types::error::Error;
-use types::memory::Memory;
-use types::memory::Slot;
+use model_types::answer::Counts;
+use model_types::answer::Measured;
+use model_types::answer::StatusAnswer;
+use model_types::error::Error;
+use model_types::memory::Memory;
+use model_types::memory::Slot;
 use validity::valid;
 
 // The number of slots that aren't idle.

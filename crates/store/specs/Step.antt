@@ -6,12 +6,12 @@ use mathlib.Core.List.{List, [], _∷_}
 use lib.ListN.{length, take, drop}
 use Rattle.bitmap.specs.Sizes.{maxBlocks}
 use Rattle.bitmap.specs.Bits.{IsBitmap}
-use Rattle.types.specs.declared.memory.Pending.{Pending}
-use Rattle.types.specs.declared.memory.Pending.the-variants.{Nothing, Commit, Recovery}
-use Rattle.types.specs.declared.error.Error.the-variants.{MemoryInvalid, DiskLength, DiskMismatch, NothingPending}
+use Rattle.model_types.specs.declared.memory.Pending.{Pending}
+use Rattle.model_types.specs.declared.memory.Pending.the-variants.{Nothing, Commit, Recovery}
+use Rattle.model_types.specs.declared.error.Error.the-variants.{MemoryInvalid, DiskLength, DiskMismatch, NothingPending}
 use Rattle.model.specs.Sizes.{diskWords}
 use Rattle.model.specs.First.{Cause, _⇒_}
-use Rattle.types.specs.Pending.{storesFor, isNothing}
+use Rattle.model_types.specs.Pending.{storesFor, isNothing}
 use Rattle.model.specs.Stores.{Store, writes, after, changes, commitStores, checkpointStores}
 use Rattle.model.specs.Valid.{sameWords}
 use Rattle.model.specs.Disk.{diskBlocks, logLength, logEntries, logValid, baseImage, recoveryMatches}

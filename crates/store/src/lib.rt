@@ -5,15 +5,15 @@ mod step;
 
 ghost use mathlib.Core.Path.{_≡_};
 ghost use Rattle.model.specs.Calls.Storing.{storeAnswer, storeMemory, storeDisk};
+use model_types::answer::Stored;
+use model_types::answer::StoresAnswer;
+use model_types::memory::Memory;
 use progress::ends_commit;
 use progress::pending_after;
 use progress::still_due;
 use refreshed::refreshed;
 use step::judge;
 use step::store_next;
-use types::answer::Stored;
-use types::answer::StoresAnswer;
-use types::memory::Memory;
 use validity::valid;
 
 // Makes the next store. Refused, memory and disk stay. With a commit's last store its slot's TAM becomes SAM.

@@ -4,7 +4,7 @@ ghost use Prim.Native.Nat.{_+_, _-_, _<_};
 ghost use lib.Dec.{eqb};
 ghost use Rattle.model.specs.Calls.Storing.{stillDue};
 ghost use Rattle.store.specs.Progress.{Unfinished, pendingAfter, endsCommit};
-use types::memory::Pending;
+use model_types::memory::Pending;
 
 // The stores done after one more.
 fn one_more(done: u32, due: u32) -> u32

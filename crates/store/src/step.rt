@@ -11,10 +11,10 @@ use disk_log::layout::DISK_WORDS;
 use disk_match::matching::commit_matches;
 use disk_match::matching::settled_matches;
 use disk_match::recovery::recovery_matches;
+use model_types::error::Error;
+use model_types::memory::Pending;
 use next_store::stores::store_commit;
 use next_store::stores::store_recovery;
-use types::error::Error;
-use types::memory::Pending;
 use verdicts::verdict::Verdict;
 
 // Whether the disk is as the memory and its stores done leave it.

@@ -2,11 +2,11 @@
 use allocate::allocate;
 use bitmap::Bitmap;
 use commit::commit;
+use model_types::answer::Stored;
+use model_types::memory::Memory;
 use precommit::precommit;
 use start::start;
 use store::store;
-use types::answer::Stored;
-use types::memory::Memory;
 use volume::format::format;
 use volume::open::open;
 

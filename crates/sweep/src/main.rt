@@ -5,13 +5,13 @@ mod longest;
 ghost use Rattle.printing.specs.Waits.{Waits};
 use longest::longest_commit;
 use longest::make_stores;
+use model_types::memory::Memory;
 use printing::end_line;
 use printing::flush;
 use printing::put;
 use printing::put_field;
 use printing::runs::put_runs;
 use store::store;
-use types::memory::Memory;
 use volume::open::open;
 
 // Where the bitmap begins on a disk.

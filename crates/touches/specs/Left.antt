@@ -8,8 +8,8 @@ use lib.Bits.{bitAnd, bitXor}
 use lib.Dec.{eqb}
 use Rattle.bitmap.specs.Sizes.{wordBits, bitmapWords}
 use Rattle.bitmap.specs.Blocks.{allBelow}
-use Rattle.types.specs.declared.memory.SlotState.{SlotState}
-use Rattle.types.specs.Memory.{isActive}
+use Rattle.model_types.specs.declared.memory.SlotState.{SlotState}
+use Rattle.model_types.specs.Memory.{isActive}
 use Rattle.model.specs.Valid.{sameWords}
 
 -- the blocks at which two bitmaps differ

@@ -6,7 +6,7 @@ ghost use Rattle.bitmap.specs.Sizes.{bitmapWords};
 ghost use Rattle.touches.specs.Left.{differ, TouchedTaken, SlotTaken};
 use bitmap::Bitmap;
 use bitops::compare::is_empty;
-use types::memory::SlotState;
+use model_types::memory::SlotState;
 
 // Puts the blocks at which COM differs from SAM into left.
 pub fn differences<'a>(left: &mut [u32; 128], sam: &'a [u32; 128], com: &'a [u32; 128])

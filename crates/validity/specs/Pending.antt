@@ -4,9 +4,9 @@ use mathlib.Core.Bool.{Bool, _&&_}
 use mathlib.Core.List.{List}
 use lib.ListN.{length}
 use lib.Dec.{leb, ltb, eqb}
-use Rattle.types.specs.declared.memory.SlotState.{SlotState}
-use Rattle.types.specs.Memory.{isPrecommitted}
-use Rattle.types.specs.Pending.{storesFor}
+use Rattle.model_types.specs.declared.memory.SlotState.{SlotState}
+use Rattle.model_types.specs.Memory.{isPrecommitted}
+use Rattle.model_types.specs.Pending.{storesFor}
 use Rattle.model.specs.Stores.{changes}
 
 -- d: the words at which the slot's bitmap differs from SAM

@@ -3,18 +3,18 @@
 ghost use mathlib.Core.Path.{_≡_};
 ghost use lib.ListN.{getD};
 ghost use Rattle.bitmap.specs.Bits.{IsBitmap};
-ghost use Rattle.types.specs.Memory.{bitmap, memoryOf, idleSlot};
-ghost use Rattle.types.specs.Pending.{ownerOf};
+ghost use Rattle.model_types.specs.Memory.{bitmap, memoryOf, idleSlot};
+ghost use Rattle.model_types.specs.Pending.{ownerOf};
 ghost use Rattle.model.specs.Valid.{valid};
 use bitmap::Bitmap;
 use bitops::compare::is_empty;
 use bits::volume_valid;
+use model_types::memory::Pending;
+use model_types::memory::Slot;
 use pending::commit_valid;
 use pending::recovery_valid;
 use touches::touch::differences;
 use touches::touch::take_slot;
-use types::memory::Pending;
-use types::memory::Slot;
 
 pub mod bits;
 pub mod pending;

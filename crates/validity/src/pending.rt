@@ -3,15 +3,15 @@ ghost use mathlib.Core.Path.{_≡_};
 ghost use Prim.Native.Nat.{_≤_};
 ghost use Rattle.bitmap.specs.Sizes.{maxBlocks};
 ghost use Rattle.bitmap.specs.Bits.{IsBitmap};
-ghost use Rattle.types.specs.Memory.{bitmap, memoryOf};
+ghost use Rattle.model_types.specs.Memory.{bitmap, memoryOf};
 ghost use Rattle.model.specs.Valid.{pendingValid};
 ghost use Rattle.validity.specs.Pending.{commitValid};
 use bitmap::Bitmap;
 use bitops::compare::changed;
 use bitops::compare::same;
-use types::memory::Pending;
-use types::memory::Slot;
-use types::memory::SlotState;
+use model_types::memory::Pending;
+use model_types::memory::Slot;
+use model_types::memory::SlotState;
 
 // A commit's slot is precommitted, and there are three stores for each word at which its TAM differs from SAM, one at
 // least, and two more.

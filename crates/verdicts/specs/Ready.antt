@@ -4,11 +4,11 @@ use Prim.Native.Nat.{ℕ}
 use mathlib.Core.Bool.{Bool, not}
 use mathlib.Core.List.{List, [], _∷_, _++_}
 use Rattle.bitmap.specs.Sizes.{slotInRange}
-use Rattle.types.specs.declared.memory.SlotState.{SlotState}
-use Rattle.types.specs.declared.memory.Pending.{Pending}
-use Rattle.types.specs.declared.error.Error.the-variants.{MemoryInvalid, WorkPending, SlotRange, SlotBusy, SlotIdle, SlotPrecommitted, SlotNotPrecommitted}
-use Rattle.types.specs.Memory.{isActive, isPrecommitted}
-use Rattle.types.specs.Pending.{isNothing}
+use Rattle.model_types.specs.declared.memory.SlotState.{SlotState}
+use Rattle.model_types.specs.declared.memory.Pending.{Pending}
+use Rattle.model_types.specs.declared.error.Error.the-variants.{MemoryInvalid, WorkPending, SlotRange, SlotBusy, SlotIdle, SlotPrecommitted, SlotNotPrecommitted}
+use Rattle.model_types.specs.Memory.{isActive, isPrecommitted}
+use Rattle.model_types.specs.Pending.{isNothing}
 use Rattle.model.specs.First.{Cause, _⇒_}
 
 -- 1, 8 and 10: all six

@@ -2,7 +2,7 @@
 use mathlib.Core.Bool.{Bool, true, false, cond}
 use mathlib.Core.Option.{Option, none, some}
 use mathlib.Core.List.{List}
-use Rattle.types.specs.declared.error.Error.{Error}
+use Rattle.model_types.specs.declared.error.Error.{Error}
 use Rattle.model.specs.First.{Cause, first}
 use Rattle.verdicts.specs.declared.verdict.Verdict.{Verdict}
 

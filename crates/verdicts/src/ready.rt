@@ -5,9 +5,9 @@ ghost use Rattle.verdicts.specs.Verdicts.{verdict};
 ghost use Rattle.verdicts.specs.Ready.{readyCauses, idleCauses, activeCauses, openCauses, precommittedCauses};
 use crate::verdict::Verdict;
 use bitmap::Bitmap;
-use types::error::Error;
-use types::memory::Pending;
-use types::memory::SlotState;
+use model_types::error::Error;
+use model_types::memory::Pending;
+use model_types::memory::SlotState;
 
 // Causes 1, 8 and 10: all six test them.
 fn ready(sound: bool, pending: Pending, slot: u32) -> Verdict

@@ -1,11 +1,11 @@
 // Whether a call is refused, and by which cause; and what the call answers by that.
 ghost use mathlib.Core.Path.{_≡_};
-ghost use Rattle.types.specs.Answers.{done, granted, due};
+ghost use Rattle.model_types.specs.Answers.{done, granted, due};
 ghost use Rattle.verdicts.specs.Verdicts.{errorOf, isAccepted, unlessHolds};
-use types::answer::Answer;
-use types::answer::GrantAnswer;
-use types::answer::StoresAnswer;
-use types::error::Error;
+use model_types::answer::Answer;
+use model_types::answer::GrantAnswer;
+use model_types::answer::StoresAnswer;
+use model_types::error::Error;
 
 pub enum Verdict {
     Accepted,

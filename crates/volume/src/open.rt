@@ -12,11 +12,11 @@ use disk_log::layout::LENGTH_AT;
 use disk_log::log::log_valid;
 use disk_log::replay::replay;
 use disk_log::sam::bitmap_valid;
-use types::answer::Stored;
-use types::answer::StoresAnswer;
-use types::error::Error;
-use types::memory::Memory;
-use types::memory::Pending;
+use model_types::answer::Stored;
+use model_types::answer::StoresAnswer;
+use model_types::error::Error;
+use model_types::memory::Memory;
+use model_types::memory::Pending;
 use verdicts::verdict::Verdict;
 
 // The causes 2 to 5, in order.

@@ -8,16 +8,16 @@ use mathlib.Core.List.{List, _++_}
 use lib.ListN.{length, getD, take, drop, List·getD-append}
 use lib.Seq.{length-take-le}
 use Rattle.available.specs.Take.{CanTake, Takes}
-use Rattle.types.specs.declared.error.Error.{Error}
-use Rattle.types.specs.declared.answer.GrantAnswer.{GrantAnswer}
-use Rattle.types.specs.declared.memory.Slot.{Slot}
-use Rattle.types.specs.declared.memory.Memory.{Memory}
-use Rattle.types.specs.Answers.{granted}
-use Rattle.types.specs.Memory.{bitmap, slotAt, withCom, withSlot, withTam}
+use Rattle.model_types.specs.declared.error.Error.{Error}
+use Rattle.model_types.specs.declared.answer.GrantAnswer.{GrantAnswer}
+use Rattle.model_types.specs.declared.memory.Slot.{Slot}
+use Rattle.model_types.specs.declared.memory.Memory.{Memory}
+use Rattle.model_types.specs.Answers.{granted}
+use Rattle.model_types.specs.Memory.{bitmap, slotAt, withCom, withSlot, withTam}
 use Rattle.model.specs.Causes.{countOutOfRange, listShort, available, tooFewAvailable}
 use Rattle.model.specs.Calls.Precommit.{precommitError}
 use Rattle.model.specs.Calls.Allocate.{allocateError, lowest, taking}
-use Rattle.types.proofs.Laws.Shape.{Shaped}
+use Rattle.model_types.proofs.Laws.Shape.{Shaped}
 use Rattle.model.proofs.Laws.Valid.{ValidParts, slot-below}
 use Rattle.model.proofs.Laws.Accepted.{AllocateAccepted}
 use Rattle.verdicts.specs.declared.verdict.Verdict.{Verdict}

@@ -6,14 +6,14 @@ use mathlib.Core.Option.{Option}
 use mathlib.Core.List.{List, _++_}
 use lib.ListN.{length, set, drop}
 use Rattle.bitmap.specs.declared.Bitmap.{Bitmap}
-use Rattle.types.specs.declared.error.Error.{Error}
-use Rattle.types.specs.declared.answer.GrantAnswer.{GrantAnswer}
-use Rattle.types.specs.declared.memory.Slot.{Slot}
-use Rattle.types.specs.Answers.{granted}
-use Rattle.types.specs.Memory.{withCom, withSlots}
+use Rattle.model_types.specs.declared.error.Error.{Error}
+use Rattle.model_types.specs.declared.answer.GrantAnswer.{GrantAnswer}
+use Rattle.model_types.specs.declared.memory.Slot.{Slot}
+use Rattle.model_types.specs.Answers.{granted}
+use Rattle.model_types.specs.Memory.{withCom, withSlots}
 use Rattle.model.specs.Calls.Precommit.{precommitError}
 use Rattle.model.specs.Calls.Allocate.{allocateError, lowest, taking, allocateAnswer, allocateMemory, allocateList}
-use Rattle.types.proofs.Laws.Shape.{Shaped, shaped}
+use Rattle.model_types.proofs.Laws.Shape.{Shaped, shaped}
 use Rattle.model.proofs.Laws.Valid.{valid-parts}
 use Rattle.model.proofs.Laws.Accepted.{AllocateAccepted, precommit-accepted, allocate-accepted}
 use Rattle.verdicts.specs.Verdicts.{verdict}

@@ -5,7 +5,7 @@ use mathlib.Core.Option.{none, some}
 use mathlib.Core.List.{List}
 use lib.ListN.{length}
 use borrow.Author.Tests.{le-leb, lt-leb}
-use Rattle.types.specs.declared.line.Parsed.{Parsed}
+use Rattle.model_types.specs.declared.line.Parsed.{Parsed}
 use Rattle.model.specs.Line.{maxLine, opField, ops, afterPrefix, parseOp, parseAfterOp, parseLine}
 
 module _ (line : List ℕ) where

@@ -8,8 +8,8 @@ use lib.ListN.{length, drop, getD, drop-of-length-le}
 use lib.Seq.{drop-cons}
 use lib.Dec.{eqb}
 use borrow.Author.Tests.{ne-eqb}
-use Rattle.types.specs.declared.line.Op.{Op}
-use Rattle.types.specs.declared.line.Parsed.{Parsed}
+use Rattle.model_types.specs.declared.line.Op.{Op}
+use Rattle.model_types.specs.declared.line.Parsed.{Parsed}
 use Rattle.model.specs.Line.{ops, opWord, slotField, afterPrefix, parseOp, slotNumber}
 use Rattle.bench_line.specs.Ops.{opElse}
 

@@ -9,7 +9,7 @@ use lib.ListN.{length, take, drop, set, length-set}
 use lib.Seq.{drop-nil, length-take-le, take-suc-set}
 use lib.Dec.{leb}
 use borrow.Author.Tests.{leb-true, leb-false}
-use Rattle.types.specs.declared.memory.Memory.{Memory}
+use Rattle.model_types.specs.declared.memory.Memory.{Memory}
 use Rattle.model.specs.Line.{newline}
 use Rattle.model.specs.Bench.{benchOf, maxLines}
 use Rattle.bench_step.specs.declared.lines.Lines.{Lines}

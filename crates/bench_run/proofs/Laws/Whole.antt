@@ -8,7 +8,7 @@ use lib.ListN.{length, take, replicate, length-append}
 use lib.Seq.{length-take-le}
 use lib.Dec.{leb, ltb}
 use borrow.Author.Tests.{leb-false, ltb-true, ltb-false}
-use Rattle.types.specs.declared.memory.Memory.{Memory}
+use Rattle.model_types.specs.declared.memory.Memory.{Memory}
 use Rattle.model.specs.Sizes.{diskWords}
 use Rattle.model.specs.Bench.{benchStart, benchOf, benchOutput, maxLines}
 use Rattle.bench_answer.specs.Put.{maxAnswer}

@@ -6,10 +6,10 @@ use mathlib.Core.List.{List}
 use lib.ListN.{length}
 use lib.Dec.{eqb}
 use borrow.Author.Tests.{eq-eqb, ne-eqb}
-use Rattle.types.specs.declared.memory.Memory.{Memory}
-use Rattle.types.specs.declared.line.Line.{Line}
-use Rattle.types.specs.declared.line.Op.{Op}
-use Rattle.types.specs.declared.line.Parsed.{Parsed}
+use Rattle.model_types.specs.declared.memory.Memory.{Memory}
+use Rattle.model_types.specs.declared.line.Line.{Line}
+use Rattle.model_types.specs.declared.line.Op.{Op}
+use Rattle.model_types.specs.declared.line.Parsed.{Parsed}
 use Rattle.model.specs.Bench.{benchOf, benchCall, benchStep}
 
 -- the step of a line, with the disk as long as before

@@ -8,7 +8,7 @@ use lib.ListN.{length, take, drop, length-append}
 use lib.Seq.{length-take-le, take-at}
 use lib.Dec.{leb}
 use borrow.Author.Tests.{leb-true, leb-false}
-use Rattle.types.specs.declared.memory.Memory.{Memory}
+use Rattle.model_types.specs.declared.memory.Memory.{Memory}
 use Rattle.model.specs.Line.{newline, parseLine, answerLine}
 use Rattle.model.specs.Bench.{Bench, benchOf, benchStep, maxLines}
 use Rattle.bench_answer.specs.Put.{Put}

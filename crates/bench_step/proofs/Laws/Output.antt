@@ -9,7 +9,7 @@ use lib.ListN.{length, take, length-append}
 use lib.Seq.{take-nil, take-all, length-take-le}
 use lib.Dec.{eqb, leb}
 use borrow.Author.Tests.{leb-true, leb-false}
-use Rattle.types.specs.declared.line.Parsed.{Parsed}
+use Rattle.model_types.specs.declared.line.Parsed.{Parsed}
 use Rattle.model.specs.Line.{newline, parseLine, answerLine}
 use Rattle.model.specs.Bench.{Bench, benchOf, benchStart, benchStep, benchOutput, linesOf, linesFrom, outputFrom, maxLines}
 use Rattle.bench_line.proofs.Laws.Line.{long-line}

@@ -7,7 +7,7 @@ use lib.ListN.{length, take, drop, length-drop}
 use lib.Seq.{take-all}
 use mir.Syntax.{w32, w64}
 use mir.Val.{Fits}
-use Rattle.types.specs.declared.memory.Memory.{Memory}
+use Rattle.model_types.specs.declared.memory.Memory.{Memory}
 use Rattle.model.specs.Line.{newline, parseLine, answerLine}
 use Rattle.model.specs.Bench.{benchOf, benchStep, maxLines}
 use Rattle.bench_answer.specs.Put.{Put, maxAnswer}

@@ -6,14 +6,14 @@ use mathlib.Core.Bool.{Bool, true, false, cond}
 use lib.ListN.{length}
 use lib.Dec.{eqb}
 use borrow.Author.Tests.{eq-eqb, ne-eqb, eqb-true, eqb-false}
-use Rattle.types.specs.declared.memory.Pending.the-variants.{Commit}
-use Rattle.types.specs.declared.memory.Memory.{Memory}
-use Rattle.types.specs.Memory.{slotAt, withPending, withSlot, idleSlot}
-use Rattle.types.specs.Pending.{storesFor}
+use Rattle.model_types.specs.declared.memory.Pending.the-variants.{Commit}
+use Rattle.model_types.specs.declared.memory.Memory.{Memory}
+use Rattle.model_types.specs.Memory.{slotAt, withPending, withSlot, idleSlot}
+use Rattle.model_types.specs.Pending.{storesFor}
 use Rattle.model.specs.Stores.{changes}
 use Rattle.model.specs.Commit.{changedOf, commitDue}
 use Rattle.model.specs.Calls.Committing.{committing}
-use Rattle.types.proofs.Laws.Shape.{Shaped}
+use Rattle.model_types.proofs.Laws.Shape.{Shaped}
 use Rattle.model.proofs.Laws.Valid.{ValidParts, valid-parts}
 use Rattle.model.proofs.Laws.Accepted.{CommitAccepted}
 use Rattle.model.proofs.Laws.Pending.{commit-due}

@@ -9,15 +9,15 @@ use lib.Dec.{eqb}
 use borrow.Author.Tests.{eqb-true}
 use Rattle.bitmap.specs.Bits.{bit, bitmapOf, noBitsFrom, IsBitmap}
 use Rattle.bitmap.proofs.Laws.Bits.{bitmapOf-bit, bitmapOf-same}
-use Rattle.types.specs.declared.memory.Slot.{Slot}
+use Rattle.model_types.specs.declared.memory.Slot.{Slot}
 use Rattle.bitmap.specs.declared.Bitmap.{Bitmap}
-use Rattle.types.specs.declared.memory.Pending.{Pending}
-use Rattle.types.specs.declared.memory.Pending.the-variants.{Nothing}
-use Rattle.types.specs.declared.memory.Memory.{Memory}
-use Rattle.types.specs.Memory.{bitmap, withTam, slotAt, idleSlot, withSlot, withSlots, withSam, withPending, samBit, isActive}
+use Rattle.model_types.specs.declared.memory.Pending.{Pending}
+use Rattle.model_types.specs.declared.memory.Pending.the-variants.{Nothing}
+use Rattle.model_types.specs.declared.memory.Memory.{Memory}
+use Rattle.model_types.specs.Memory.{bitmap, withTam, slotAt, idleSlot, withSlot, withSlots, withSam, withPending, samBit, isActive}
 use Rattle.model.specs.Stores.{_≔_, changesFrom, changes}
 use Rattle.model.specs.Commit.{committedSam, refreshed, committed}
-use Rattle.types.proofs.Laws.Shape.{Shaped}
+use Rattle.model_types.proofs.Laws.Shape.{Shaped}
 use Rattle.model.proofs.Laws.Valid.{ValidParts, slot-below}
 use Rattle.model.proofs.Laws.Touches.{xor-self}
 

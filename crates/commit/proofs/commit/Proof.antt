@@ -4,17 +4,17 @@ use mathlib.Core.Logic.{⊎-elim}
 use mathlib.Core.Option.{Option}
 use mathlib.Core.List.{List}
 use lib.ListN.{length, set}
-use Rattle.types.specs.declared.error.Error.{Error}
-use Rattle.types.specs.declared.memory.Slot.{Slot}
-use Rattle.types.specs.declared.memory.Pending.{Pending}
-use Rattle.types.specs.declared.memory.Pending.the-variants.{Commit}
-use Rattle.types.specs.declared.memory.Memory.{Memory}
-use Rattle.types.specs.Answers.{due}
-use Rattle.types.specs.Memory.{withSlots, withPending}
+use Rattle.model_types.specs.declared.error.Error.{Error}
+use Rattle.model_types.specs.declared.memory.Slot.{Slot}
+use Rattle.model_types.specs.declared.memory.Pending.{Pending}
+use Rattle.model_types.specs.declared.memory.Pending.the-variants.{Commit}
+use Rattle.model_types.specs.declared.memory.Memory.{Memory}
+use Rattle.model_types.specs.Answers.{due}
+use Rattle.model_types.specs.Memory.{withSlots, withPending}
 use Rattle.model.specs.Stores.{changes}
 use Rattle.model.specs.Commit.{commitDue}
 use Rattle.model.specs.Calls.Committing.{commitError, committing, commitAnswer, commitMemory}
-use Rattle.types.proofs.Laws.Shape.{Shaped, shaped}
+use Rattle.model_types.proofs.Laws.Shape.{Shaped, shaped}
 use Rattle.model.proofs.Laws.Accepted.{CommitAccepted, commit-accepted}
 use Rattle.verdicts.specs.Verdicts.{verdict}
 use Rattle.verdicts.proofs.Laws.Verdicts.{error-of, accepted-none, accepted-leaves, refused-leaves, refused-stores}

@@ -3,9 +3,9 @@ use mathlib.Core.Path.{_≡_, refl, sym, ap, subst}
 use mathlib.Core.Logic.{_⊎_, inl, inr, ⊎-elim}
 use mathlib.Core.Option.{Option}
 use mathlib.Core.List.{List, [], _∷_}
-use Rattle.types.specs.declared.error.Error.{Error}
-use Rattle.types.specs.declared.memory.Memory.{Memory}
-use Rattle.types.specs.Memory.{zeroMemory}
+use Rattle.model_types.specs.declared.error.Error.{Error}
+use Rattle.model_types.specs.declared.memory.Memory.{Memory}
+use Rattle.model_types.specs.Memory.{zeroMemory}
 use Rattle.model.specs.First.{firstOr, first, unlessRefused}
 use Rattle.model.specs.Valid.{valid}
 use Rattle.bitmap.specs.Sizes.{blocksInRange}

@@ -9,9 +9,9 @@ use lib.Dec.{eqb}
 use borrow.Author.Tests.{eqb-true}
 use Rattle.bitmap.specs.Sizes.{slotCount}
 use Rattle.bitmap.specs.Bits.{IsBitmap}
-use Rattle.types.specs.declared.memory.Memory.{Memory}
-use Rattle.types.specs.declared.memory.Pending.the-variants.{Commit}
-use Rattle.types.specs.Memory.{withPending}
+use Rattle.model_types.specs.declared.memory.Memory.{Memory}
+use Rattle.model_types.specs.declared.memory.Pending.the-variants.{Commit}
+use Rattle.model_types.specs.Memory.{withPending}
 use Rattle.model.specs.Stores.{writes}
 use Rattle.model.specs.Commit.{changedOf, commitDue, committed}
 use Rattle.model.specs.Disk.{diskMatches}

@@ -4,9 +4,9 @@ use mathlib.Core.Path.{_≡_, refl, sym, ap, ap₂, _∙_}
 use mathlib.Core.Option.{Option, none, some}
 use mathlib.Core.List.{List}
 use lib.ListN.{drop}
-use Rattle.types.specs.declared.error.Error.{Error}
-use Rattle.types.specs.declared.memory.Memory.{Memory}
-use Rattle.types.specs.declared.memory.Pending.the-variants.{Nothing}
+use Rattle.model_types.specs.declared.error.Error.{Error}
+use Rattle.model_types.specs.declared.memory.Memory.{Memory}
+use Rattle.model_types.specs.declared.memory.Pending.the-variants.{Nothing}
 use Rattle.model.specs.Sizes.{logAt}
 use Rattle.model.specs.First.{unlessRefused}
 use Rattle.model.specs.Valid.{sameWords}

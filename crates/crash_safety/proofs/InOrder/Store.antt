@@ -7,13 +7,13 @@ use mathlib.Core.List.{List}
 use lib.ListN.{length, take, drop}
 use Rattle.bitmap.specs.Sizes.{slotCount}
 use Rattle.bitmap.specs.Bits.{IsBitmap}
-use Rattle.types.specs.declared.error.Error.{Error}
-use Rattle.types.specs.declared.memory.Memory.{Memory}
-use Rattle.types.specs.declared.memory.Pending.{Pending}
-use Rattle.types.specs.declared.memory.Pending.the-variants.{Nothing, Commit, Recovery}
+use Rattle.model_types.specs.declared.error.Error.{Error}
+use Rattle.model_types.specs.declared.memory.Memory.{Memory}
+use Rattle.model_types.specs.declared.memory.Pending.{Pending}
+use Rattle.model_types.specs.declared.memory.Pending.the-variants.{Nothing, Commit, Recovery}
 use Rattle.model.specs.First.{unlessRefused}
 use Rattle.model.specs.Stores.{writes, checkpointStores}
-use Rattle.types.specs.Pending.{isNothing}
+use Rattle.model_types.specs.Pending.{isNothing}
 use Rattle.model.specs.Pending.{storesDone}
 use Rattle.model.specs.Valid.{pendingValid}
 use Rattle.model.specs.Disk.{dueStores, diskMatches}

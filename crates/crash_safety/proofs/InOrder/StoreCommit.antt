@@ -9,10 +9,10 @@ use lib.Dec.{eqb}
 use borrow.Author.Tests.{eqb-true, eqb-false}
 use Rattle.bitmap.specs.Sizes.{slotCount}
 use Rattle.bitmap.specs.Bits.{IsBitmap}
-use Rattle.types.specs.declared.memory.Memory.{Memory}
-use Rattle.types.specs.declared.memory.Pending.the-variants.{Commit}
+use Rattle.model_types.specs.declared.memory.Memory.{Memory}
+use Rattle.model_types.specs.declared.memory.Pending.the-variants.{Commit}
 use Rattle.model.specs.Sizes.{diskWords, logAt}
-use Rattle.types.specs.Memory.{slotAt, withPending}
+use Rattle.model_types.specs.Memory.{slotAt, withPending}
 use Rattle.model.specs.Stores.{writes, after, commitStores}
 use Rattle.model.specs.Commit.{committedSam, entriesOf, changedOf, committed}
 use Rattle.model.specs.Pending.{storesDone, storesDue, oneMoreDone, finished}

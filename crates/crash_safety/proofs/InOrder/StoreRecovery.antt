@@ -8,10 +8,10 @@ use mathlib.Core.List.{List}
 use lib.ListN.{length, take, drop}
 use lib.Dec.{eqb}
 use borrow.Author.Tests.{eqb-true, eqb-false}
-use Rattle.types.specs.declared.memory.Memory.{Memory}
-use Rattle.types.specs.declared.memory.Pending.the-variants.{Nothing, Recovery}
+use Rattle.model_types.specs.declared.memory.Memory.{Memory}
+use Rattle.model_types.specs.declared.memory.Pending.the-variants.{Nothing, Recovery}
 use Rattle.model.specs.Sizes.{diskWords}
-use Rattle.types.specs.Memory.{withPending}
+use Rattle.model_types.specs.Memory.{withPending}
 use Rattle.model.specs.Stores.{closingStores}
 use Rattle.model.specs.Pending.{storesDone, storesDue, oneMoreDone, finished}
 use Rattle.model.specs.Valid.{pendingValid}

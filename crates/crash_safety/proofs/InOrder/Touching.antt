@@ -6,8 +6,8 @@ use mathlib.Core.Bool.{true}
 use mathlib.Core.List.{List}
 use lib.ListN.{length}
 use Rattle.bitmap.specs.Sizes.{slotCount}
-use Rattle.types.specs.declared.memory.Memory.{Memory}
-use Rattle.types.specs.Memory.{slotAt, isActive}
+use Rattle.model_types.specs.declared.memory.Memory.{Memory}
+use Rattle.model_types.specs.Memory.{slotAt, isActive}
 use Rattle.model.specs.Calls.Start.{startError, started, startMemory}
 use Rattle.model.specs.Calls.Allocate.{allocateError, lowest, taking, allocateMemory}
 use Rattle.model.specs.Calls.Deallocate.{deallocateError, freeing, deallocateMemory}

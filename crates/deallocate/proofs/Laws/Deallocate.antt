@@ -6,16 +6,16 @@ use mathlib.Core.List.{List, [], _∷_}
 use borrow.Author.Tests.{le-leb, lt-leb}
 use lib.Dec.{eqb}
 use Rattle.bitmap.specs.Bits.{bit, bitmapOf}
-use Rattle.types.specs.declared.memory.Memory.{Memory}
-use Rattle.types.specs.declared.error.Error.the-variants.{BlockRange, BlockFree, BlockFreeing}
+use Rattle.model_types.specs.declared.memory.Memory.{Memory}
+use Rattle.model_types.specs.declared.error.Error.the-variants.{BlockRange, BlockFree, BlockFreeing}
 use Rattle.model.specs.First.{first, _⇒_}
-use Rattle.types.specs.Memory.{slotAt, comBit, tamBit}
+use Rattle.model_types.specs.Memory.{slotAt, comBit, tamBit}
 use Rattle.model.specs.Valid.{valid}
 use Rattle.model.specs.Causes.{blockOutOfRange, blockFree, blockFreeing}
 use Rattle.model.specs.Calls.Precommit.{precommitError}
 use Rattle.model.specs.Calls.Deallocate.{deallocateError}
 use Rattle.model.proofs.Laws.First.{cause-holds, cause-passed, no-cause}
-use Rattle.types.proofs.Laws.Shape.{Shaped}
+use Rattle.model_types.proofs.Laws.Shape.{Shaped}
 use Rattle.model.proofs.Laws.Valid.{ValidParts, valid-parts, slot-below}
 use Rattle.bitops.specs.Block.{clearBit}
 use Rattle.bitops.proofs.Laws.Block.{clear-bitmap}

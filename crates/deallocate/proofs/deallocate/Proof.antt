@@ -8,12 +8,12 @@ use lib.ListN.{set}
 use Rattle.bitmap.specs.declared.Bitmap.{Bitmap}
 use Rattle.bitmap.specs.Sizes.{maxBlocks}
 use Rattle.bitops.specs.Block.{clearBit}
-use Rattle.types.specs.declared.memory.Slot.{Slot}
-use Rattle.types.specs.Answers.{done}
-use Rattle.types.specs.Memory.{bitmap, withCom, withSlots, withTam}
+use Rattle.model_types.specs.declared.memory.Slot.{Slot}
+use Rattle.model_types.specs.Answers.{done}
+use Rattle.model_types.specs.Memory.{bitmap, withCom, withSlots, withTam}
 use Rattle.model.specs.Calls.Precommit.{precommitError}
 use Rattle.model.specs.Calls.Deallocate.{deallocateError, freeing, deallocateAnswer, deallocateMemory}
-use Rattle.types.proofs.Laws.Shape.{Shaped, shaped}
+use Rattle.model_types.proofs.Laws.Shape.{Shaped, shaped}
 use Rattle.model.proofs.Laws.Valid.{valid-parts}
 use Rattle.model.proofs.Laws.Accepted.{DeallocateAccepted, precommit-accepted, deallocate-accepted}
 use Rattle.verdicts.specs.Verdicts.{verdict}

@@ -11,7 +11,7 @@ use lib.Dec.{leb, eqb}
 use borrow.Author.Tests.{leb-true, leb-false}
 use Rattle.bitmap.specs.Sizes.{bitmapWords}
 use Rattle.model.specs.Sizes.{diskWords, bitmapAt, logAt}
-use Rattle.types.specs.Pending.{storesFor, changedFor}
+use Rattle.model_types.specs.Pending.{storesFor, changedFor}
 use Rattle.model.specs.Stores.{Store, writes, after, changes, logStores, commitStores}
 use Rattle.model.specs.Valid.{sameWords}
 use Rattle.model.specs.Disk.{lengthIn, diskBlocks, logLength, diskBitmap, diskOf, baseImage}

@@ -11,11 +11,11 @@ use borrow.Author.Tests.{leb-true, leb-false, ltb-true, ltb-false, eqb-true, eq-
 use Rattle.bitmap.specs.Sizes.{slotCount, maxCount, blocksInRange, countInRange, slotInRange}
 use Rattle.model.specs.Types.{Pending, Nothing, Commit, Recovery, Memory}
 use Rattle.model.specs.Sizes.{diskWords}
-use Rattle.types.specs.Memory.{slotAt, isActive, isPrecommitted, samBit, comBit}
+use Rattle.model_types.specs.Memory.{slotAt, isActive, isPrecommitted, samBit, comBit}
 use Rattle.model.specs.Valid.{valid}
 use Rattle.model.specs.Disk.{diskMatches}
 use Rattle.model.specs.Causes.{memoryInvalid, diskLengthWrong, diskMismatched, blocksOutOfRange, nothingPending, workPending, slotOutOfRange, slotActive, slotInactive, slotPrecommitted, slotNotPrecommitted, countOutOfRange, listShort, available, tooFewAvailable, blockOutOfRange, blockFree, blockFreeing}
-use Rattle.types.specs.Pending.{isNothing}
+use Rattle.model_types.specs.Pending.{isNothing}
 use Rattle.model.specs.Calls.Format.{formatError}
 use Rattle.model.specs.Calls.Start.{startError}
 use Rattle.model.specs.Calls.Allocate.{allocateError}

@@ -13,7 +13,7 @@ use lib.Seq.{take-append-le, take-append-add, take-all}
 use Rattle.bitmap.specs.Sizes.{maxBlocks, bitmapWords, wordsFor}
 use Rattle.bitmap.specs.Bits.{noBitsFrom}
 use Rattle.model.specs.Sizes.{lengthAt, logAt, logWords}
-use Rattle.types.specs.Pending.{storesFor}
+use Rattle.model_types.specs.Pending.{storesFor}
 use Rattle.model.specs.Stores.{Store, _≔_, writes, after, changes, logStores, onDisk, checkpointWith, journalWith, commitPoint, closingStores, commitStores}
 use Rattle.model.specs.Disk.{lengthIn, diskOf, entriesIn, entriesValid, durable}
 use Rattle.model.specs.Calls.Opening.{openError}

@@ -9,7 +9,7 @@ use lib.Seq.{getD-set-same, getD-set-other}
 use Rattle.bitmap.specs.Bits.{bit, noBitsFrom, IsBitmap}
 use Rattle.bitmap.proofs.Laws.Bits.{bitmapOf-is, noBits-bit, noBits-bitmapOf}
 use Rattle.model.specs.Types.{Bitmap, Slot, Memory}
-use Rattle.types.specs.Memory.{slotAt, idleSlot, isActive, samBit, comBit, tamBit, withTam, volumeBitmap}
+use Rattle.model_types.specs.Memory.{slotAt, idleSlot, isActive, samBit, comBit, tamBit, withTam, volumeBitmap}
 use Rattle.model.specs.Commit.{committedSam, refreshed, committed}
 use Rattle.model.specs.Valid.{touched, slotValid, pendingValid}
 use Rattle.model.proofs.Laws.Valid.{ValidParts, touchesBlock, idle-valid}

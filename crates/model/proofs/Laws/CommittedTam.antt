@@ -5,7 +5,7 @@ use mathlib.Core.Bool.{true}
 use Rattle.bitmap.specs.Bits.{IsBitmap}
 use Rattle.bitmap.proofs.Laws.Bits.{bitmap-ext, bitmapOf-is}
 use Rattle.model.specs.Types.{Bitmap, Nothing, Memory}
-use Rattle.types.specs.Memory.{bitmap, slotAt, isActive, withPending}
+use Rattle.model_types.specs.Memory.{bitmap, slotAt, isActive, withPending}
 use Rattle.model.specs.Stores.{changes}
 use Rattle.model.specs.Commit.{committedSam, entriesOf}
 use Rattle.model.specs.Valid.{valid}

@@ -4,7 +4,7 @@ use mathlib.Core.Path.{_≡_}
 use lib.ListN.{length, length-set}
 use lib.Seq.{getD-set-same, getD-set-other}
 use Rattle.model.specs.Types.{Slot, Memory}
-use Rattle.types.specs.Memory.{idleSlot, slotAt, withSlot}
+use Rattle.model_types.specs.Memory.{idleSlot, slotAt, withSlot}
 
 module _ (memory : Memory) (s : ℕ) (slot : Slot) where
   pub slots-length : length (withSlot memory s slot .slots) ≡ length (memory .slots)

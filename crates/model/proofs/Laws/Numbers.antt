@@ -5,8 +5,8 @@ use mathlib.Core.Bool.{false}
 use mathlib.Core.Option.{Option, none, some}
 use lib.Dec.{eqb}
 use Rattle.model.specs.Types.{Error, MemoryInvalid, DiskLength, DiskBlocks, DiskBitmap, DiskLog, DiskMismatch, BlocksRange, WorkPending, NothingPending, SlotRange, SlotBusy, SlotIdle, SlotPrecommitted, SlotNotPrecommitted, CountRange, ListShort, TooFewAvailable, BlockRange, BlockFree, BlockFreeing, LineMalformed}
-use Rattle.types.specs.Errors.{code}
-use Rattle.types.specs.Answers.{done, granted, due, doneNumber, grantNumber, storesNumber}
+use Rattle.model_types.specs.Errors.{code}
+use Rattle.model_types.specs.Answers.{done, granted, due, doneNumber, grantNumber, storesNumber}
 
 abbrev pub numberOf : Option Error → ℕ
 numberOf none = 0

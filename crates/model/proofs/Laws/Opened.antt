@@ -11,7 +11,7 @@ use Rattle.bitmap.specs.Sizes.{slotCount}
 use Rattle.bitmap.specs.Bits.{bit}
 use Rattle.bitmap.proofs.Laws.Blocks.{allBelow-all}
 use Rattle.model.specs.Types.{Pending, Nothing, Recovery, Memory}
-use Rattle.types.specs.Memory.{quietMemory, bitmap, idleSlot}
+use Rattle.model_types.specs.Memory.{quietMemory, bitmap, idleSlot}
 use Rattle.model.specs.Sizes.{logAt}
 use Rattle.model.specs.Stores.{writes, checkpointWith, closingStores, checkpointStores}
 use Rattle.model.specs.Valid.{allSlots, slotValid, touches, touchesAgree, isQuiet, pendingValid}

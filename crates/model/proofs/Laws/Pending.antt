@@ -10,8 +10,8 @@ use lib.Dec.{leb, ltb, eqb}
 use borrow.Author.Tests.{eqb-false, leb-true, ltb-true, eqb-true, le-leb, lt-ltb, eq-eqb, ne-eqb}
 use Rattle.bitmap.specs.Sizes.{slotCount}
 use Rattle.model.specs.Types.{SlotState, Idle, Open, Precommitted, Slot, Pending, Nothing, Commit, Recovery, Memory}
-use Rattle.types.specs.Memory.{slotAt, idleSlot, isActive, isPrecommitted, withPending, volumeWords}
-use Rattle.types.specs.Pending.{storesFor}
+use Rattle.model_types.specs.Memory.{slotAt, idleSlot, isActive, isPrecommitted, withPending, volumeWords}
+use Rattle.model_types.specs.Pending.{storesFor}
 use Rattle.model.specs.Stores.{commitStores}
 use Rattle.model.specs.Commit.{committedSam, entriesOf, changedOf, commitDue}
 use Rattle.model.specs.Pending.{storesDone, storesDue, oneMoreDone}

@@ -10,7 +10,7 @@ use Rattle.bitmap.specs.Majority.{majority}
 use Rattle.bitmap.proofs.Laws.Bits.{bit-below, bit-from, below-or-from, noBits-bit, noBits-bitmapOf}
 use Rattle.bitmap.proofs.Laws.Majority.{rollback-untouched, rollback-touched}
 use Rattle.model.specs.Types.{Nothing, Memory}
-use Rattle.types.specs.Memory.{slotAt, idleSlot, isActive, samBit, comBit, tamBit}
+use Rattle.model_types.specs.Memory.{slotAt, idleSlot, isActive, samBit, comBit, tamBit}
 use Rattle.model.specs.Valid.{touched}
 use Rattle.model.specs.Calls.Rollback.{rolledBackCom, rolledBack}
 use Rattle.model.proofs.Laws.Valid.{ValidParts, touchesBlock, idle-valid}

@@ -6,7 +6,7 @@ use native.Mathlib.Nat.{add-zero, add-assoc}
 use native.Mathlib.Omega.{arith}
 use lib.ListN.{length, take, drop, length-append, length-map}
 use lib.Seq.{take-append-le}
-use Rattle.types.specs.Pending.{storesFor, changedFor}
+use Rattle.model_types.specs.Pending.{storesFor, changedFor}
 use Rattle.model.specs.Stores.{Store, _≔_, writes, logStores, onDisk, checkpointWith, journalWith, commitPoint, closingStores, commitStores}
 use Rattle.model.proofs.Laws.Places.{shift, writes-shift}
 

@@ -9,7 +9,7 @@ use borrow.Author.Tests.{eq-eqb}
 use Rattle.bitmap.specs.Bits.{bit, noBitsFrom}
 use Rattle.bitmap.proofs.Laws.Blocks.{allBelow-all}
 use Rattle.model.specs.Types.{Bitmap, Slot, Pending, Nothing, Memory}
-use Rattle.types.specs.Memory.{slotAt, idleSlot, isActive, samBit, comBit, emptyBitmap, withCom, withSlot, withPending}
+use Rattle.model_types.specs.Memory.{slotAt, idleSlot, isActive, samBit, comBit, emptyBitmap, withCom, withSlot, withPending}
 use Rattle.model.specs.Valid.{touched, sameWords, allSlots, slotValid, touches, touchesAgree, pendingValid}
 use Rattle.model.proofs.Laws.Fields.{slots-length, slot-same, slot-other}
 use Rattle.model.proofs.Laws.Writes.{and-both, and-first, and-second}

@@ -5,7 +5,7 @@ use mathlib.Core.Path.{_≡_, refl, ap}
 use mathlib.Core.Bool.{Bool, true, false, _&&_}
 use lib.ListN.{length}
 use Rattle.model.specs.Types.{Open, Precommitted, Slot, Nothing, Memory}
-use Rattle.types.specs.Memory.{slotAt, withState, withTam, isActive, samBit}
+use Rattle.model_types.specs.Memory.{slotAt, withState, withTam, isActive, samBit}
 use Rattle.model.specs.Valid.{touched}
 use Rattle.model.specs.Calls.Start.{started}
 use Rattle.model.specs.Calls.Precommit.{precommitting}

@@ -13,7 +13,7 @@ use Rattle.bitmap.specs.Bits.{noBitsFrom}
 use Rattle.bitmap.proofs.Laws.Bits.{noBits-all}
 use Rattle.bitmap.proofs.Laws.Blocks.{allBelow-at}
 use Rattle.model.specs.Types.{Slot, Memory}
-use Rattle.types.specs.Memory.{slotAt, idleSlot, isActive, samBit, comBit}
+use Rattle.model_types.specs.Memory.{slotAt, idleSlot, isActive, samBit, comBit}
 use Rattle.model.specs.Valid.{touched, allSlots, slotValid, touches, touchesAgree, pendingValid, valid}
 use Rattle.model.proofs.Laws.Writes.{and-both, and-first, and-second, words-same}
 use Rattle.model.proofs.Laws.DiskParts.{blocks-inRange, inRange-low, inRange-high}

@@ -8,8 +8,8 @@ use lib.ListN.{take, drop, getD}
 use Rattle.bitmap.specs.Blocks.{member}
 use Rattle.model.specs.Types.{Error, GrantAnswer, Memory, MemoryInvalid, WorkPending, SlotRange, SlotIdle, SlotPrecommitted, CountRange, ListShort, TooFewAvailable}
 use Rattle.model.specs.First.{first, _⇒_, unlessRefused}
-use Rattle.types.specs.Answers.{granted}
-use Rattle.types.specs.Memory.{withCom, withSlot, withTam, slotAt, comBit, tamBit, volumeBitmap}
+use Rattle.model_types.specs.Answers.{granted}
+use Rattle.model_types.specs.Memory.{withCom, withSlot, withTam, slotAt, comBit, tamBit, volumeBitmap}
 use Rattle.model.specs.Causes.{memoryInvalid, workPending, slotOutOfRange, slotInactive, slotPrecommitted, countOutOfRange, listShort, available, tooFewAvailable}
 
 unfoldable pub allocateError : Memory → ℕ → ℕ → List ℕ → Option Error

@@ -5,8 +5,8 @@ use mathlib.Core.Option.{Option}
 use mathlib.Core.List.{List, [], _∷_}
 use Rattle.model.specs.Types.{Error, StoresAnswer, Pending, Nothing, Recovery, Memory, DiskLength, DiskBlocks, DiskBitmap, DiskLog}
 use Rattle.model.specs.First.{first, _⇒_, unlessRefused}
-use Rattle.types.specs.Answers.{due}
-use Rattle.types.specs.Memory.{quietMemory, zeroMemory, bitmap}
+use Rattle.model_types.specs.Answers.{due}
+use Rattle.model_types.specs.Memory.{quietMemory, zeroMemory, bitmap}
 use Rattle.model.specs.Disk.{diskBlocks, logLength, durable}
 use Rattle.model.specs.Causes.{diskLengthWrong, diskBlocksWrong, diskBitmapWrong, diskLogWrong}
 

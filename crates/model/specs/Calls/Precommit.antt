@@ -4,8 +4,8 @@ use mathlib.Core.Option.{Option}
 use mathlib.Core.List.{[], _∷_}
 use Rattle.model.specs.Types.{Error, Answer, Precommitted, Memory, MemoryInvalid, WorkPending, SlotRange, SlotIdle, SlotPrecommitted}
 use Rattle.model.specs.First.{first, _⇒_, unlessRefused}
-use Rattle.types.specs.Answers.{done}
-use Rattle.types.specs.Memory.{withSlot, withState, slotAt}
+use Rattle.model_types.specs.Answers.{done}
+use Rattle.model_types.specs.Memory.{withSlot, withState, slotAt}
 use Rattle.model.specs.Causes.{memoryInvalid, workPending, slotOutOfRange, slotInactive, slotPrecommitted}
 
 unfoldable pub precommitError : Memory → ℕ → Option Error

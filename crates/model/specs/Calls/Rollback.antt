@@ -6,8 +6,8 @@ use mathlib.Core.List.{[], _∷_}
 use Rattle.bitmap.specs.Majority.{majority}
 use Rattle.model.specs.Types.{Error, Answer, Bitmap, Memory, MemoryInvalid, WorkPending, SlotRange, SlotIdle}
 use Rattle.model.specs.First.{first, _⇒_, unlessRefused}
-use Rattle.types.specs.Answers.{done}
-use Rattle.types.specs.Memory.{withCom, withSlot, idleSlot, slotAt, samBit, comBit, tamBit, volumeBitmap}
+use Rattle.model_types.specs.Answers.{done}
+use Rattle.model_types.specs.Memory.{withCom, withSlot, idleSlot, slotAt, samBit, comBit, tamBit, volumeBitmap}
 use Rattle.model.specs.Causes.{memoryInvalid, workPending, slotOutOfRange, slotInactive}
 
 unfoldable pub rollbackError : Memory → ℕ → Option Error

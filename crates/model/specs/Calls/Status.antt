@@ -8,8 +8,8 @@ use lib.ListN.{length}
 use Rattle.bitmap.specs.Blocks.{allocatedBlocks}
 use Rattle.model.specs.Types.{Error, StatusAnswer, Counts, Slot, Memory, MemoryInvalid}
 use Rattle.model.specs.First.{first, _⇒_}
-use Rattle.types.specs.Answers.{counted}
-use Rattle.types.specs.Memory.{isActive}
+use Rattle.model_types.specs.Answers.{counted}
+use Rattle.model_types.specs.Memory.{isActive}
 use Rattle.model.specs.Causes.{memoryInvalid}
 
 unfoldable pub statusError : Memory → Option Error

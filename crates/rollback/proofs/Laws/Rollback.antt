@@ -2,11 +2,11 @@
 use Prim.Native.Nat.{ℕ}
 use mathlib.Core.Path.{_≡_}
 use mathlib.Core.Bool.{true}
-use Rattle.types.specs.declared.memory.Memory.{Memory}
-use Rattle.types.specs.Memory.{slotAt}
+use Rattle.model_types.specs.declared.memory.Memory.{Memory}
+use Rattle.model_types.specs.Memory.{slotAt}
 use Rattle.model.specs.Valid.{valid}
 use Rattle.model.specs.Calls.Rollback.{rolledBackCom}
-use Rattle.types.proofs.Laws.Shape.{Shaped}
+use Rattle.model_types.proofs.Laws.Shape.{Shaped}
 use Rattle.model.proofs.Laws.Valid.{valid-parts, slot-below}
 use Rattle.bitops.specs.Combine.{rollbackWord, zip3}
 use Rattle.bitops.proofs.Laws.Combine.{rollback-bitmap}

@@ -6,11 +6,11 @@ use mathlib.Core.Logic.{⊎-elim}
 use Rattle.bitmap.specs.declared.Bitmap.{Bitmap}
 use Rattle.bitmap.specs.Bits.{IsBitmap}
 use Rattle.bitops.specs.Combine.{rollbackWord, zip3}
-use Rattle.types.specs.declared.memory.Slot.{Slot}
-use Rattle.types.specs.Answers.{done}
-use Rattle.types.specs.Memory.{bitmap, withCom, withSlots}
+use Rattle.model_types.specs.declared.memory.Slot.{Slot}
+use Rattle.model_types.specs.Answers.{done}
+use Rattle.model_types.specs.Memory.{bitmap, withCom, withSlots}
 use Rattle.model.specs.Calls.Rollback.{rollbackError, rolledBack, rollbackAnswer, rollbackMemory}
-use Rattle.types.proofs.Laws.Shape.{Shaped, shaped}
+use Rattle.model_types.proofs.Laws.Shape.{Shaped, shaped}
 use Rattle.model.proofs.Laws.Accepted.{rollback-accepted}
 use Rattle.verdicts.specs.Verdicts.{verdict}
 use Rattle.verdicts.proofs.Laws.Verdicts.{error-of, accepted-none, accepted-leaves, refused-leaves}

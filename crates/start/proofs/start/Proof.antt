@@ -3,11 +3,11 @@ use mathlib.Core.List.{List}
 use lib.ListN.{set}
 use mathlib.Core.Path.{_≡_, ap, ap₂, _∙_}
 use mathlib.Core.Logic.{⊎-elim}
-use Rattle.types.specs.declared.memory.Slot.{Slot}
-use Rattle.types.specs.Answers.{done}
-use Rattle.types.specs.Memory.{withSlots}
+use Rattle.model_types.specs.declared.memory.Slot.{Slot}
+use Rattle.model_types.specs.Answers.{done}
+use Rattle.model_types.specs.Memory.{withSlots}
 use Rattle.model.specs.Calls.Start.{startError, started, startAnswer, startMemory}
-use Rattle.types.proofs.Laws.Shape.{Shaped, shaped}
+use Rattle.model_types.proofs.Laws.Shape.{Shaped, shaped}
 use Rattle.model.proofs.Laws.Accepted.{start-accepted}
 use Rattle.verdicts.specs.Verdicts.{verdict}
 use Rattle.verdicts.proofs.Laws.Verdicts.{error-of, accepted-none, accepted-leaves, refused-leaves}

@@ -12,16 +12,16 @@ use Rattle.bitmap.specs.Bits.{bit}
 use Rattle.bitmap.specs.Blocks.{allocatedBlocks}
 use Rattle.bitmap.proofs.Laws.Blocks.{from-length}
 use Rattle.bitmap.proofs.Laws.Count.{onesOf, allocated-ones}
-use Rattle.types.specs.declared.error.Error.the-variants.{MemoryInvalid}
-use Rattle.types.specs.declared.memory.Slot.{Slot}
-use Rattle.types.specs.declared.memory.Memory.{Memory}
+use Rattle.model_types.specs.declared.error.Error.the-variants.{MemoryInvalid}
+use Rattle.model_types.specs.declared.memory.Slot.{Slot}
+use Rattle.model_types.specs.declared.memory.Memory.{Memory}
 use Rattle.model.specs.First.{first, firstOr}
-use Rattle.types.specs.Answers.{counted}
-use Rattle.types.specs.Memory.{isActive}
+use Rattle.model_types.specs.Answers.{counted}
+use Rattle.model_types.specs.Memory.{isActive}
 use Rattle.model.specs.Valid.{valid}
 use Rattle.model.specs.Causes.{memoryInvalid}
 use Rattle.model.specs.Calls.Status.{statusError, allocated, activeSlots, counts, statusAnswer}
-use Rattle.types.proofs.Laws.Shape.{Shaped}
+use Rattle.model_types.proofs.Laws.Shape.{Shaped}
 use Rattle.model.proofs.Laws.Valid.{ValidParts, valid-parts}
 use Rattle.status.specs.Status.{statusOf}
 

@@ -6,7 +6,7 @@ use mathlib.Core.Logic.{⊎-elim}
 use lib.ListN.{length, drop}
 use borrow.Author.Needs.{needs}
 use Rattle.model.specs.Calls.Status.{activeSlots}
-use Rattle.types.proofs.Laws.Shape.{slots-shaped}
+use Rattle.model_types.proofs.Laws.Shape.{slots-shaped}
 use Rattle.status.proofs.Laws.Status.{one-more, same-count, all-counted}
 use Rattle.status.proofs.count_active.Statement.{statement}
 use Rattle.status.proofs.count_active.Tie as tie

@@ -1,7 +1,7 @@
 -- The memory tested, the ones of SAM and the active slots counted.
 use mathlib.Core.Path.{refl, sym, _∙_}
 use native.Mathlib.Omega.{arith}
-use Rattle.types.proofs.Laws.Shape.{Shaped, shaped}
+use Rattle.model_types.proofs.Laws.Shape.{Shaped, shaped}
 use Rattle.verdicts.proofs.Laws.Ready.{owner-read}
 use Rattle.status.proofs.Laws.Status.{ones-few, status-is}
 use borrow.Author.Needs.{needs}

@@ -6,9 +6,9 @@ use mathlib.Core.List.{List}
 use native.Mathlib.Omega.{arith}
 use lib.ListN.{length}
 use Rattle.bitmap.specs.Sizes.{maxBlocks}
-use Rattle.types.specs.declared.memory.Memory.{Memory}
-use Rattle.types.specs.declared.memory.Pending.the-variants.{Commit, Recovery}
-use Rattle.types.specs.Pending.{storesFor}
+use Rattle.model_types.specs.declared.memory.Memory.{Memory}
+use Rattle.model_types.specs.declared.memory.Pending.the-variants.{Commit, Recovery}
+use Rattle.model_types.specs.Pending.{storesFor}
 use Rattle.model.specs.Stores.{Store, changes}
 use Rattle.model.specs.Commit.{entriesOf, changedOf}
 use Rattle.model.specs.Valid.{pendingValid, valid}

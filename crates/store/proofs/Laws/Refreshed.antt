@@ -7,11 +7,11 @@ use Rattle.bitmap.specs.Bits.{IsBitmap, noBitsFrom}
 use Rattle.bitops.specs.Combine.{refreshWord, zip3}
 use Rattle.bitops.proofs.Laws.Combine.{refresh-bitmap}
 use Rattle.bitmap.specs.declared.Bitmap.{Bitmap}
-use Rattle.types.specs.declared.memory.Slot.{Slot}
-use Rattle.types.specs.declared.memory.Memory.{Memory}
-use Rattle.types.specs.Memory.{bitmap, withTam, idleSlot, isActive}
+use Rattle.model_types.specs.declared.memory.Slot.{Slot}
+use Rattle.model_types.specs.declared.memory.Memory.{Memory}
+use Rattle.model_types.specs.Memory.{bitmap, withTam, idleSlot, isActive}
 use Rattle.model.specs.Commit.{refreshed}
-use Rattle.types.proofs.Laws.Shape.{Shaped}
+use Rattle.model_types.proofs.Laws.Shape.{Shaped}
 use Rattle.model.proofs.Laws.Valid.{ValidParts}
 use Rattle.store.specs.Refreshed.{refreshedSlot}
 

@@ -6,9 +6,9 @@ use mathlib.Core.List.{List, [], _∷_, map}
 use lib.ListN.{length, getD, set, length-set}
 use lib.Seq.{set-getD}
 use Rattle.bitmap.specs.Bits.{IsBitmap}
-use Rattle.types.specs.declared.memory.Slot.{Slot}
-use Rattle.types.specs.Memory.{idleSlot}
-use Rattle.types.proofs.Laws.Shape.{ShapedSlots, empty-is}
+use Rattle.model_types.specs.declared.memory.Slot.{Slot}
+use Rattle.model_types.specs.Memory.{idleSlot}
+use Rattle.model_types.proofs.Laws.Shape.{ShapedSlots, empty-is}
 
 -- the first k slots made new, the others as they were
 unfoldable pub mapFirst : (Slot → Slot) → ℕ → List Slot → List Slot

@@ -5,7 +5,7 @@ use mathlib.Core.Bool.{Bool, true, false, not}
 use mathlib.Core.List.{List, [], _∷_}
 use lib.ListN.{length}
 use borrow.Author.Tests.{eq-eqb, ne-eqb}
-use Rattle.types.specs.declared.error.Error.the-variants.{MemoryInvalid, DiskLength}
+use Rattle.model_types.specs.declared.error.Error.the-variants.{MemoryInvalid, DiskLength}
 use Rattle.model.specs.Sizes.{diskWords}
 use Rattle.model.specs.First.{Cause, first, _⇒_}
 use Rattle.model.specs.Causes.{diskLengthWrong}

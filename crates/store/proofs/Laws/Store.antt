@@ -10,26 +10,26 @@ use borrow.Author.Tests.{lt-ltb}
 use Rattle.bitmap.specs.Bits.{IsBitmap, noBitsFrom}
 use Rattle.bitmap.specs.Sizes.{slotCount, slotInRange, slotIndex}
 use Rattle.bitmap.specs.declared.Bitmap.{Bitmap}
-use Rattle.types.specs.declared.error.Error.{Error}
-use Rattle.types.specs.declared.error.Error.the-variants.{MemoryInvalid, DiskLength, DiskMismatch, NothingPending}
-use Rattle.types.specs.declared.answer.StoresAnswer.{StoresAnswer}
-use Rattle.types.specs.declared.memory.Slot.{Slot}
-use Rattle.types.specs.declared.memory.Pending.{Pending}
-use Rattle.types.specs.declared.memory.Pending.the-variants.{Nothing, Commit, Recovery}
-use Rattle.types.specs.declared.memory.Memory.{Memory}
-use Rattle.types.specs.Answers.{due}
+use Rattle.model_types.specs.declared.error.Error.{Error}
+use Rattle.model_types.specs.declared.error.Error.the-variants.{MemoryInvalid, DiskLength, DiskMismatch, NothingPending}
+use Rattle.model_types.specs.declared.answer.StoresAnswer.{StoresAnswer}
+use Rattle.model_types.specs.declared.memory.Slot.{Slot}
+use Rattle.model_types.specs.declared.memory.Pending.{Pending}
+use Rattle.model_types.specs.declared.memory.Pending.the-variants.{Nothing, Commit, Recovery}
+use Rattle.model_types.specs.declared.memory.Memory.{Memory}
+use Rattle.model_types.specs.Answers.{due}
 use Rattle.model.specs.First.{Cause, first, _⇒_}
-use Rattle.types.specs.Memory.{slotAt, idleSlot, isActive, withSam, withSlots, withPending}
+use Rattle.model_types.specs.Memory.{slotAt, idleSlot, isActive, withSam, withSlots, withPending}
 use Rattle.model.specs.Stores.{Store, writes, after, changes, commitStores}
 use Rattle.model.specs.Commit.{committedSam, entriesOf, refreshed, committed}
-use Rattle.types.specs.Pending.{isNothing, ownerOf}
+use Rattle.model_types.specs.Pending.{isNothing, ownerOf}
 use Rattle.model.specs.Pending.{storesDone, storesDue, oneMoreDone, finished}
 use Rattle.model.specs.Valid.{sameWords, valid, pendingValid}
 use Rattle.model.specs.Disk.{baseImage, dueStores, diskMatches}
 use Rattle.model.specs.Causes.{memoryInvalid, diskLengthWrong, diskMismatched, nothingPending}
 use Rattle.model.specs.Calls.Storing.{storeError, advanced, nextStored}
 use Rattle.model.specs.Sizes.{diskWords}
-use Rattle.types.proofs.Laws.Shape.{Shaped, empty-is}
+use Rattle.model_types.proofs.Laws.Shape.{Shaped, empty-is}
 use Rattle.model.proofs.Laws.First.{cause-holds}
 use Rattle.model.proofs.Laws.Valid.{ValidParts, valid-parts, slot-below, noBits-empty}
 use Rattle.model.proofs.Laws.Committed.{committed-bitmap, committed-below}

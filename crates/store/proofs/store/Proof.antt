@@ -7,16 +7,16 @@ use mathlib.Core.List.{List, map}
 use lib.ListN.{length, getD, set}
 use denote.Ref.{now}
 use Rattle.bitmap.specs.declared.Bitmap.{Bitmap}
-use Rattle.types.specs.declared.error.Error.{Error}
-use Rattle.types.specs.declared.answer.StoresAnswer.{StoresAnswer}
-use Rattle.types.specs.declared.memory.Slot.{Slot}
-use Rattle.types.specs.declared.memory.Pending.{Pending}
-use Rattle.types.specs.declared.memory.Memory.{Memory}
+use Rattle.model_types.specs.declared.error.Error.{Error}
+use Rattle.model_types.specs.declared.answer.StoresAnswer.{StoresAnswer}
+use Rattle.model_types.specs.declared.memory.Slot.{Slot}
+use Rattle.model_types.specs.declared.memory.Pending.{Pending}
+use Rattle.model_types.specs.declared.memory.Memory.{Memory}
 use Rattle.model.specs.First.{first}
-use Rattle.types.specs.Memory.{idleSlot, withSam, withSlots, withPending}
-use Rattle.types.specs.Answers.{due}
+use Rattle.model_types.specs.Memory.{idleSlot, withSam, withSlots, withPending}
+use Rattle.model_types.specs.Answers.{due}
 use Rattle.model.specs.Calls.Storing.{storeError, advanced, nextStored, storeAnswer, storeMemory, storeDisk}
-use Rattle.types.proofs.Laws.Shape.{Shaped, shaped}
+use Rattle.model_types.proofs.Laws.Shape.{Shaped, shaped}
 use Rattle.model.proofs.Laws.Accepted.{StoreAccepted, store-accepted}
 use Rattle.verdicts.specs.Verdicts.{verdict}
 use Rattle.verdicts.proofs.Laws.Verdicts.{error-of, accepted-none, accepted-leaves, refused-leaves, refused-stores}

@@ -4,16 +4,16 @@ use mathlib.Core.Path.{_≡_, refl, sym, ap, _∙_}
 use mathlib.Core.Bool.{Bool, true, false, cond, _&&_}
 use lib.ListN.{getD}
 use Rattle.bitmap.specs.Sizes.{slotInRange, slotIndex}
-use Rattle.types.specs.declared.memory.Slot.{Slot}
-use Rattle.types.specs.declared.memory.Pending.{Pending}
-use Rattle.types.specs.declared.memory.Memory.{Memory}
-use Rattle.types.specs.Memory.{idleSlot, slotAt, withPending}
-use Rattle.types.specs.Pending.{ownerOf}
+use Rattle.model_types.specs.declared.memory.Slot.{Slot}
+use Rattle.model_types.specs.declared.memory.Pending.{Pending}
+use Rattle.model_types.specs.declared.memory.Memory.{Memory}
+use Rattle.model_types.specs.Memory.{idleSlot, slotAt, withPending}
+use Rattle.model_types.specs.Pending.{ownerOf}
 use Rattle.model.specs.Valid.{pendingValid, valid}
 use Rattle.model.proofs.Laws.Writes.{and-both, and-first, and-second}
 use Rattle.model.proofs.Laws.Valid.{valid-parts, parts-valid}
 use Rattle.model.proofs.Laws.Touches.{pending-valid}
-use Rattle.types.proofs.Laws.Shape.{Shaped}
+use Rattle.model_types.proofs.Laws.Shape.{Shaped}
 use Rattle.validity.specs.Pending.{commitValid}
 use Rattle.validity.proofs.Laws.Slots.{bool-ext}
 use Rattle.validity.proofs.Laws.Pending.{commit-valid, commit-past}

@@ -11,16 +11,16 @@ use Rattle.bitmap.specs.Sizes.{bitmapWords, slotCount, blocksInRange}
 use Rattle.bitmap.specs.Bits.{bit, noBitsFrom}
 use Rattle.bitmap.proofs.Laws.Bits.{bit-empty, noBits-bit, bits-noBits}
 use Rattle.bitmap.proofs.Laws.Blocks.{allBelow-all}
-use Rattle.types.specs.declared.memory.Slot.{Slot}
-use Rattle.types.specs.declared.memory.Pending.{Pending}
-use Rattle.types.specs.declared.memory.Memory.{Memory}
-use Rattle.types.specs.Memory.{slotAt, isActive, emptyBitmap, tamBit}
+use Rattle.model_types.specs.declared.memory.Slot.{Slot}
+use Rattle.model_types.specs.declared.memory.Pending.{Pending}
+use Rattle.model_types.specs.declared.memory.Memory.{Memory}
+use Rattle.model_types.specs.Memory.{slotAt, isActive, emptyBitmap, tamBit}
 use Rattle.model.specs.Valid.{touched, sameWords, allSlots, slotValid, touches, touchesAgree, pendingValid, valid}
 use Rattle.model.proofs.Laws.Writes.{and-both, and-first, and-second, same-words, words-same}
 use Rattle.model.proofs.Laws.DiskParts.{inRange-low, inRange-high}
 use Rattle.model.proofs.Laws.Valid.{ValidParts, valid-parts, parts-valid, touchesBlock, touches-one, noBits-empty}
 use Rattle.model.proofs.Laws.Touches.{one, differs, active-valid}
-use Rattle.types.proofs.Laws.Shape.{Shaped}
+use Rattle.model_types.proofs.Laws.Shape.{Shaped}
 use Rattle.touches.specs.Left.{SlotTaken}
 use Rattle.validity.proofs.Laws.Slots.{bool-ext, not-true-false, allSlots-all}
 use Rattle.validity.proofs.Laws.Passed.{Passed}

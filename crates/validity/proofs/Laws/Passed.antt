@@ -12,14 +12,14 @@ use lib.Seq.{take-suc}
 use Rattle.bitmap.specs.Sizes.{bitmapWords, slotCount}
 use Rattle.bitmap.specs.Bits.{bit, IsBitmap}
 use Rattle.bitmap.proofs.Laws.Bits.{below-or-from}
-use Rattle.types.specs.declared.memory.Slot.{Slot}
-use Rattle.types.specs.declared.memory.Memory.{Memory}
-use Rattle.types.specs.Memory.{idleSlot, slotAt, isActive}
+use Rattle.model_types.specs.declared.memory.Slot.{Slot}
+use Rattle.model_types.specs.declared.memory.Memory.{Memory}
+use Rattle.model_types.specs.Memory.{idleSlot, slotAt, isActive}
 use Rattle.model.specs.Valid.{touched, touches}
 use Rattle.model.proofs.Laws.Writes.{same-words}
 use Rattle.model.proofs.Laws.Valid.{touchesBlock}
 use Rattle.model.proofs.Laws.Touches.{one, differs}
-use Rattle.types.proofs.Laws.Shape.{Shaped}
+use Rattle.model_types.proofs.Laws.Shape.{Shaped}
 use Rattle.touches.specs.Left.{differ, SlotTaken}
 use Rattle.touches.proofs.Laws.Differ.{differ-is}
 use Rattle.validity.proofs.Laws.LeftBits.{bit-differ, left-bits}

@@ -9,12 +9,12 @@ use lib.Dec.{leb, ltb, eqb}
 use borrow.Author.Tests.{leb-true, le-leb, eqb-true, eq-eqb, ltb-false, not-true}
 use Rattle.bitmap.specs.Sizes.{bitmapWords, slotCount, slotInRange}
 use Rattle.bitmap.specs.Bits.{IsBitmap}
-use Rattle.types.specs.declared.memory.SlotState.{SlotState}
-use Rattle.types.specs.declared.memory.Slot.{Slot}
-use Rattle.types.specs.declared.memory.Pending.{Pending}
-use Rattle.types.specs.declared.memory.Memory.{Memory}
-use Rattle.types.specs.Memory.{idleSlot, slotAt, isActive, isPrecommitted, volumeWords, withPending}
-use Rattle.types.specs.Pending.{storesFor}
+use Rattle.model_types.specs.declared.memory.SlotState.{SlotState}
+use Rattle.model_types.specs.declared.memory.Slot.{Slot}
+use Rattle.model_types.specs.declared.memory.Pending.{Pending}
+use Rattle.model_types.specs.declared.memory.Memory.{Memory}
+use Rattle.model_types.specs.Memory.{idleSlot, slotAt, isActive, isPrecommitted, volumeWords, withPending}
+use Rattle.model_types.specs.Pending.{storesFor}
 use Rattle.model.specs.Stores.{changes}
 use Rattle.model.specs.Commit.{changedOf, commitDue}
 use Rattle.model.specs.Valid.{sameWords, allSlots, isQuiet, pendingValid}

@@ -10,14 +10,14 @@ use lib.Seq.{take-all}
 use Rattle.bitmap.specs.Sizes.{bitmapWords, slotCount}
 use Rattle.bitmap.specs.Bits.{bit, noBitsFrom}
 use Rattle.bitmap.proofs.Laws.Bits.{below-or-from, bit-empty, bitmap-ext, noBits-bit}
-use Rattle.types.specs.declared.memory.Slot.{Slot}
-use Rattle.types.specs.declared.memory.Memory.{Memory}
-use Rattle.types.specs.Memory.{idleSlot, slotAt, isActive, emptyBitmap, samBit, tamBit}
+use Rattle.model_types.specs.declared.memory.Slot.{Slot}
+use Rattle.model_types.specs.declared.memory.Memory.{Memory}
+use Rattle.model_types.specs.Memory.{idleSlot, slotAt, isActive, emptyBitmap, samBit, tamBit}
 use Rattle.model.specs.Valid.{touched, sameWords, slotValid, touches, valid}
 use Rattle.model.proofs.Laws.Writes.{and-second, words-same}
 use Rattle.model.proofs.Laws.Valid.{ValidParts, allSlots-at, touches-at, touchesBlock, idle-valid, slot-below}
 use Rattle.model.proofs.Laws.Touches.{one, differs}
-use Rattle.types.proofs.Laws.Shape.{Shaped, empty-is}
+use Rattle.model_types.proofs.Laws.Shape.{Shaped, empty-is}
 use Rattle.touches.specs.Left.{differ, SlotTaken}
 use Rattle.touches.proofs.Laws.Differ.{differ-is}
 use Rattle.validity.proofs.Laws.LeftBits.{bit-differ, bits-left}

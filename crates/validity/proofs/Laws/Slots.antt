@@ -5,12 +5,12 @@ use mathlib.Core.Bool.{Bool, true, false}
 use mathlib.Core.List.{List, [], _∷_}
 use lib.ListN.{length, getD}
 use Rattle.bitmap.specs.Bits.{IsBitmap}
-use Rattle.types.specs.declared.memory.Slot.{Slot}
-use Rattle.types.specs.declared.memory.Pending.{Pending}
-use Rattle.types.specs.Memory.{bitmap, memoryOf, idleSlot}
+use Rattle.model_types.specs.declared.memory.Slot.{Slot}
+use Rattle.model_types.specs.declared.memory.Pending.{Pending}
+use Rattle.model_types.specs.Memory.{bitmap, memoryOf, idleSlot}
 use Rattle.model.specs.Valid.{allSlots}
 use Rattle.model.proofs.Laws.Writes.{and-both}
-use Rattle.types.proofs.Laws.Shape.{Shaped, ShapedSlots}
+use Rattle.model_types.proofs.Laws.Shape.{Shaped, ShapedSlots}
 
 -- two Bools are one if each is true where the other is
 pub bool-ext : (a b : Bool) → (a ≡ true → b ≡ true) → (b ≡ true → a ≡ true) → a ≡ b

@@ -6,11 +6,11 @@ use mathlib.Core.Bool.{Bool, true, false}
 use lib.ListN.{getD}
 use borrow.Author.Tests.{not-true, not-false}
 use Rattle.bitmap.specs.Sizes.{slotCount}
-use Rattle.types.specs.declared.memory.Slot.{Slot}
-use Rattle.types.specs.declared.memory.Pending.{Pending}
-use Rattle.types.specs.declared.memory.Memory.{Memory}
-use Rattle.types.specs.Memory.{bitmap, memoryOf, slotAt}
-use Rattle.types.proofs.Laws.Shape.{Shaped, slots-shaped, slot-read}
+use Rattle.model_types.specs.declared.memory.Slot.{Slot}
+use Rattle.model_types.specs.declared.memory.Pending.{Pending}
+use Rattle.model_types.specs.declared.memory.Memory.{Memory}
+use Rattle.model_types.specs.Memory.{bitmap, memoryOf, slotAt}
+use Rattle.model_types.proofs.Laws.Shape.{Shaped, slots-shaped, slot-read}
 use Rattle.touches.specs.Left.{SlotTaken}
 use Rattle.touches.proofs.Laws.Answers.{taken-false, left-true}
 use Rattle.validity.proofs.Laws.Slots.{parts-shaped}

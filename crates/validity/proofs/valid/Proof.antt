@@ -3,13 +3,13 @@ use mathlib.Core.Path.{_≡_}
 use mathlib.Core.Bool.{true}
 use borrow.Author.Needs.{needs}
 use Rattle.bitmap.specs.Bits.{IsBitmap}
-use Rattle.types.specs.declared.memory.Pending.{Pending}
-use Rattle.types.specs.declared.memory.Memory.{Memory}
-use Rattle.types.specs.Memory.{bitmap, memoryOf, slotAt, withPending}
-use Rattle.types.specs.Pending.{ownerOf}
+use Rattle.model_types.specs.declared.memory.Pending.{Pending}
+use Rattle.model_types.specs.declared.memory.Memory.{Memory}
+use Rattle.model_types.specs.Memory.{bitmap, memoryOf, slotAt, withPending}
+use Rattle.model_types.specs.Pending.{ownerOf}
 use Rattle.model.specs.Valid.{valid}
 use Rattle.model.proofs.Laws.Valid.{valid-parts}
-use Rattle.types.proofs.Laws.Shape.{Shaped, slots-shaped}
+use Rattle.model_types.proofs.Laws.Shape.{Shaped, slots-shaped}
 use Rattle.touches.proofs.Laws.Answers.{taken-false, left-true}
 use Rattle.validity.proofs.Laws.Slots.{parts-shaped}
 use Rattle.validity.proofs.Laws.Checked.{maps-wrong, checked-nothing, checked-past, checked-commit, checked-recovery}

@@ -7,21 +7,21 @@ use lib.ListN.{getD, take}
 use borrow.Author.Tests.{lt-ltb, ltb-true}
 use Rattle.bitmap.specs.Bits.{IsBitmap}
 use Rattle.bitmap.specs.Sizes.{slotCount, slotInRange, slotIndex, IsSlot}
-use Rattle.types.specs.declared.memory.SlotState.{SlotState}
-use Rattle.types.specs.declared.memory.Slot.{Slot}
-use Rattle.types.specs.declared.memory.Memory.{Memory}
-use Rattle.types.specs.declared.error.Error.{Error}
-use Rattle.types.specs.declared.error.Error.the-variants.{SlotRange, SlotBusy, SlotIdle, SlotPrecommitted, SlotNotPrecommitted}
+use Rattle.model_types.specs.declared.memory.SlotState.{SlotState}
+use Rattle.model_types.specs.declared.memory.Slot.{Slot}
+use Rattle.model_types.specs.declared.memory.Memory.{Memory}
+use Rattle.model_types.specs.declared.error.Error.{Error}
+use Rattle.model_types.specs.declared.error.Error.the-variants.{SlotRange, SlotBusy, SlotIdle, SlotPrecommitted, SlotNotPrecommitted}
 use Rattle.model.specs.First.{Cause, first, firstOr, _⇒_}
-use Rattle.types.specs.Memory.{slotAt, idleSlot, isActive, isPrecommitted}
-use Rattle.types.specs.Pending.{ownerOf}
+use Rattle.model_types.specs.Memory.{slotAt, idleSlot, isActive, isPrecommitted}
+use Rattle.model_types.specs.Pending.{ownerOf}
 use Rattle.model.specs.Valid.{valid}
 use Rattle.model.specs.Causes.{memoryInvalid, nothingPending, workPending, slotOutOfRange, slotActive, slotInactive, slotPrecommitted, slotNotPrecommitted}
 use Rattle.model.specs.Calls.Start.{startError}
 use Rattle.model.specs.Calls.Precommit.{precommitError}
 use Rattle.model.specs.Calls.Rollback.{rollbackError}
 use Rattle.model.specs.Calls.Committing.{commitError}
-use Rattle.types.proofs.Laws.Shape.{Shaped, slot-read}
+use Rattle.model_types.proofs.Laws.Shape.{Shaped, slot-read}
 use Rattle.verdicts.specs.declared.verdict.Verdict.{Verdict}
 use Rattle.verdicts.specs.Verdicts.{verdict}
 use Rattle.verdicts.specs.Ready.{readyCauses, idleCauses, activeCauses, openCauses, precommittedCauses}

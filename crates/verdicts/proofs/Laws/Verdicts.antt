@@ -4,8 +4,8 @@ use mathlib.Core.Path.{_≡_, refl, sym, ap, _∙_}
 use mathlib.Core.Bool.{Bool, true, false, false≢true}
 use mathlib.Core.Option.{Option, none, some}
 use mathlib.Core.List.{List, [], _∷_, _++_}
-use Rattle.types.specs.declared.error.Error.{Error}
-use Rattle.types.specs.Answers.{due}
+use Rattle.model_types.specs.declared.error.Error.{Error}
+use Rattle.model_types.specs.Answers.{due}
 use Rattle.model.specs.First.{Cause, first, firstOr, unlessRefused, _⇒_}
 use Rattle.verdicts.specs.declared.verdict.Verdict.{Verdict}
 use Rattle.verdicts.specs.Verdicts.{verdict, errorOf, isAccepted, unlessHolds, thenCauses}

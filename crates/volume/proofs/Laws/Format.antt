@@ -6,11 +6,11 @@ use mathlib.Core.Option.{Option, none, some}
 use mathlib.Core.List.{List}
 use lib.ListN.{length}
 use borrow.Author.Tests.{eq-eqb, ne-eqb}
-use Rattle.types.specs.declared.error.Error.{Error}
-use Rattle.types.specs.declared.error.Error.the-variants.{DiskLength, BlocksRange}
-use Rattle.types.specs.declared.answer.Answer.{Answer}
+use Rattle.model_types.specs.declared.error.Error.{Error}
+use Rattle.model_types.specs.declared.error.Error.the-variants.{DiskLength, BlocksRange}
+use Rattle.model_types.specs.declared.answer.Answer.{Answer}
 use Rattle.model.specs.First.{first, firstOr, unlessRefused}
-use Rattle.types.specs.Answers.{done}
+use Rattle.model_types.specs.Answers.{done}
 use Rattle.bitmap.specs.Sizes.{blocksInRange}
 use Rattle.model.specs.Causes.{diskLengthWrong, blocksOutOfRange}
 use Rattle.model.specs.Calls.Format.{formatError, formatted, formatAnswer, formatDisk}

@@ -8,14 +8,14 @@ use mathlib.Core.List.{List}
 use lib.ListN.{length}
 use borrow.Author.Tests.{eq-eqb, ne-eqb}
 use Rattle.bitmap.specs.Bits.{noBitsFrom}
-use Rattle.types.specs.declared.error.Error.{Error}
-use Rattle.types.specs.declared.error.Error.the-variants.{DiskLength, DiskBlocks, DiskBitmap, DiskLog}
-use Rattle.types.specs.declared.memory.Pending.the-variants.{Nothing, Recovery}
+use Rattle.model_types.specs.declared.error.Error.{Error}
+use Rattle.model_types.specs.declared.error.Error.the-variants.{DiskLength, DiskBlocks, DiskBitmap, DiskLog}
+use Rattle.model_types.specs.declared.memory.Pending.the-variants.{Nothing, Recovery}
 use Rattle.model.specs.First.{first, firstOr, unlessRefused}
 use Rattle.bitmap.specs.Sizes.{blocksInRange}
-use Rattle.types.specs.declared.answer.StoresAnswer.{StoresAnswer}
-use Rattle.types.specs.Memory.{zeroMemory}
-use Rattle.types.specs.Answers.{due}
+use Rattle.model_types.specs.declared.answer.StoresAnswer.{StoresAnswer}
+use Rattle.model_types.specs.Memory.{zeroMemory}
+use Rattle.model_types.specs.Answers.{due}
 use Rattle.model.specs.Disk.{diskBlocks, logLength, diskBitmap, logValid}
 use Rattle.model.proofs.Laws.DiskParts.{opens-parts, log-valid}
 use Rattle.model.specs.Causes.{diskLengthWrong, diskBlocksWrong, diskBitmapWrong, diskLogWrong}

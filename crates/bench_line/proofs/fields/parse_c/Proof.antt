@@ -1,7 +1,7 @@
 -- The op that is tried last is the first of the list.
 use mathlib.Core.Path.{ap, _∙_}
 use borrow.Author.Needs.{needs}
-use Rattle.types.specs.declared.line.Op.{Op}
+use Rattle.model_types.specs.declared.line.Op.{Op}
 use Rattle.model.specs.Line.{parseOp}
 use Rattle.bench_line.specs.Ops.{opElse}
 use Rattle.bench_line.proofs.fields.parse_c.Statement.{statement}

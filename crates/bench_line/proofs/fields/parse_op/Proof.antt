@@ -4,7 +4,7 @@ use mathlib.Core.Path.{_≡_, refl, sym, ap, _∙_}
 use mathlib.Core.List.{List}
 use lib.ListN.{drop, getD}
 use borrow.Author.Needs.{needs}
-use Rattle.types.specs.declared.line.Op.{Op}
+use Rattle.model_types.specs.declared.line.Op.{Op}
 use Rattle.model.specs.Line.{ops, parseOp}
 use Rattle.bench_line.specs.Ops.{opElse}
 use Rattle.bench_line.proofs.Laws.Ops.{opsWith, at-end, at-letter, no-ops}

@@ -7,7 +7,7 @@ use native.Mathlib.Omega.{arith}
 use lib.ListN.{length}
 use borrow.Author.Needs.{needs}
 use denote.Ref.{now}
-use Rattle.types.specs.Answers.{doneNumber, grantNumber, grantValue, storesNumber, storesValue, statusNumber, statusValue}
+use Rattle.model_types.specs.Answers.{doneNumber, grantNumber, grantValue, storesNumber, storesValue, statusNumber, statusValue}
 use Rattle.model.specs.Calls.Opening.{openMemory}
 use Rattle.model.specs.Outcome.{outcome, formatOutcome}
 use Rattle.model.specs.Bench.{benchOf, benchCall, benchStep}

@@ -7,7 +7,7 @@ use denote.Ref.{now}
 use borrow.Author.Tests.{not-true, not-false}
 use borrow.Author.Needs.{needs}
 use Rattle.bitmap.specs.Sizes.{bitmapWords}
-use Rattle.types.specs.Pending.{changedFor}
+use Rattle.model_types.specs.Pending.{changedFor}
 use Rattle.model.specs.Stores.{after, changes, commitStores}
 use Rattle.model.specs.Valid.{sameWords}
 use Rattle.model.specs.Disk.{baseImage}

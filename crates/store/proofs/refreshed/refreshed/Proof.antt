@@ -7,9 +7,9 @@ use mathlib.Core.Logic.{⊎-elim}
 use mathlib.Core.List.{List, map}
 use lib.ListN.{length, getD, set}
 use denote.Ref.{now}
-use Rattle.types.specs.declared.memory.Slot.{Slot}
-use Rattle.types.specs.Memory.{idleSlot, isActive}
-use Rattle.types.proofs.Laws.Shape.{ShapedSlots, slots-shaped, slots-read}
+use Rattle.model_types.specs.declared.memory.Slot.{Slot}
+use Rattle.model_types.specs.Memory.{idleSlot, isActive}
+use Rattle.model_types.proofs.Laws.Shape.{ShapedSlots, slots-shaped, slots-read}
 use borrow.Author.Needs.{needs}
 use Rattle.store.specs.Refreshed.{refreshedSlot}
 use Rattle.store.proofs.Laws.Slots.{mapFirst, mapFirst-at, mapFirst-step, mapFirst-stays, mapFirst-all, idled-shaped}

@@ -7,12 +7,12 @@ use lib.ListN.{length, getD}
 use borrow.Author.Count.{below-none, below-more}
 use borrow.Author.Needs.{needs}
 use Rattle.bitmap.specs.Sizes.{slotCount}
-use Rattle.types.specs.declared.memory.Slot.{Slot}
-use Rattle.types.specs.declared.memory.Pending.{Pending}
-use Rattle.types.specs.declared.memory.Memory.{Memory}
-use Rattle.types.specs.Memory.{bitmap, memoryOf, idleSlot, slotAt, isActive}
+use Rattle.model_types.specs.declared.memory.Slot.{Slot}
+use Rattle.model_types.specs.declared.memory.Pending.{Pending}
+use Rattle.model_types.specs.declared.memory.Memory.{Memory}
+use Rattle.model_types.specs.Memory.{bitmap, memoryOf, idleSlot, slotAt, isActive}
 use Rattle.model.specs.Valid.{sameWords}
-use Rattle.types.proofs.Laws.Shape.{ShapedSlots, slots-shaped, slots-read}
+use Rattle.model_types.proofs.Laws.Shape.{ShapedSlots, slots-shaped, slots-read}
 use Rattle.touches.proofs.Laws.Answers.{taken-false, left-true}
 use Rattle.validity.proofs.Laws.Pending.{recovery-active, recovery-differs, recovery-few, recovery-many, recovery-rest}
 use Rattle.validity.proofs.pending.recovery_valid.Statement.{statement}

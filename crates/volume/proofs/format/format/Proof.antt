@@ -1,7 +1,7 @@
 -- Each return is the first cause that holds, by the tests before it.
 use mathlib.Core.Path.{sym, _∙_}
 use borrow.Author.Tests.{not-true, not-false}
-use Rattle.types.specs.declared.error.Error.the-variants.{DiskLength, BlocksRange}
+use Rattle.model_types.specs.declared.error.Error.the-variants.{DiskLength, BlocksRange}
 use Rattle.volume.proofs.Laws.Format.{refused, accepted, wrong-length, out-of-range, none-holds}
 use borrow.Author.Needs.{needs}
 use Rattle.volume.proofs.format.format.Statement.{statement}

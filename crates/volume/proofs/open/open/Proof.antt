@@ -1,7 +1,7 @@
 -- Refused, the memory of zeros; accepted, the disk's.
 use mathlib.Core.Path.{sym, ap, _∙_}
 use native.Mathlib.Omega.{arith}
-use Rattle.types.specs.declared.answer.StoresAnswer.{StoresAnswer}
+use Rattle.model_types.specs.declared.answer.StoresAnswer.{StoresAnswer}
 use Rattle.model.specs.Disk.{lengthIn}
 use Rattle.model.proofs.Laws.DiskParts.{opens-parts}
 use Rattle.verdicts.proofs.Laws.Verdicts.{known-accepted, known-refused}

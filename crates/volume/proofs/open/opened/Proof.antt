@@ -3,8 +3,8 @@ use mathlib.Core.Path.{ap₂, _∙_}
 use mathlib.Core.List.{List}
 use native.Mathlib.Omega.{arith}
 use denote.Ref.{now}
-use Rattle.types.specs.declared.memory.Pending.{Pending}
-use Rattle.types.specs.Memory.{quietMemory, bitmap}
+use Rattle.model_types.specs.declared.memory.Pending.{Pending}
+use Rattle.model_types.specs.Memory.{quietMemory, bitmap}
 use Rattle.model.specs.Disk.{lengthIn, diskBlocks}
 use Rattle.model.specs.Calls.Opening.{opened}
 use Rattle.model.proofs.Laws.DiskParts.{opens-parts}
@@ -16,7 +16,7 @@ use Rattle.volume.proofs.open.opened.Reads as reads
 use Rattle.volume.proofs.open.opened.Lts as lts
 use Rattle.volume.proofs.open.recovery.Reads as recovery-reads
 use Rattle.disk_log.proofs.replay.replay.Reads as replay-reads
-use Rattle.types.proofs.memory.Memory.quiet.Reads as quiet-reads
+use Rattle.model_types.proofs.memory.Memory.quiet.Reads as quiet-reads
 
 -- src/open.rt:73:16
 replay-requires : tie.Need-replay-requires

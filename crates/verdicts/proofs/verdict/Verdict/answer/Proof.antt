@@ -1,5 +1,5 @@
 -- Each arm is a case of `done`.
-use Rattle.types.specs.Answers.{done}
+use Rattle.model_types.specs.Answers.{done}
 use Rattle.verdicts.specs.declared.verdict.Verdict.{Verdict}
 use borrow.Author.Needs.{needs}
 use Rattle.verdicts.proofs.verdict.Verdict.answer.Statement.{statement}

@@ -1,5 +1,5 @@
 -- Each arm is a case of `granted`.
-use Rattle.types.specs.Answers.{granted}
+use Rattle.model_types.specs.Answers.{granted}
 use Rattle.verdicts.specs.declared.verdict.Verdict.{Verdict}
 use borrow.Author.Needs.{needs}
 use Rattle.verdicts.proofs.verdict.Verdict.grant.Statement.{statement}

@@ -1,5 +1,5 @@
 -- Each arm is a case of `due`.
-use Rattle.types.specs.Answers.{due}
+use Rattle.model_types.specs.Answers.{due}
 use Rattle.verdicts.specs.declared.verdict.Verdict.{Verdict}
 use borrow.Author.Needs.{needs}
 use Rattle.verdicts.proofs.verdict.Verdict.stores.Statement.{statement}

@@ -1,0 +1,26 @@
+-- A quiet memory, by what `Memory::new` and `Slot::idle` ensure.
+use mathlib.Core.Path.{ap, _∙_}
+use lib.ListN.{replicate}
+use Rattle.bitmap.specs.Sizes.{slotCount}
+use Rattle.model_types.specs.declared.memory.Slot.{Slot}
+use Rattle.model_types.specs.Memory.{memoryOf}
+use borrow.Author.Needs.{needs}
+use Rattle.model_types.proofs.memory.Memory.quiet.Statement.{statement}
+use Rattle.model_types.proofs.memory.Memory.quiet.Tie as tie
+
+idle-requires : tie.Need-idle-requires
+idle-requires c κs = search needs
+
+new-requires : tie.Need-new-requires
+new-requires c κs = search needs
+
+returns : tie.Need-returns
+returns c =
+    let a = c .before .before .args in
+    c .new .ensures
+    ∙ ap
+    (λ (slot : Slot). memoryOf (a .blocks) (a .sam) (a .sam) (replicate slotCount slot) (a .pending))
+    (c .before .idle .ensures)
+
+pub quiet-spec : {M : Type 1} → statement M
+quiet-spec = tie.close (tie.spec idle-requires new-requires returns)
