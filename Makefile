@@ -6,7 +6,7 @@
 
 FILE ?= bench/example.txt
 # checks that rt runs at a time. It waits for all of a batch, so batches larger than the number of cores leave fewer idle
-JOBS ?= 8
+JOBS ?= 6
 SEEDS ?= 20
 REFERENCE := reference/target/release/reference
 
