@@ -1,6 +1,4 @@
--- Available blocks, counts and scans.
-pub mod Count
+-- Available blocks and scans.
 pub mod Available
-pub mod Whole
 pub mod Scan
 pub mod Take

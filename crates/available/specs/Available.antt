@@ -1,9 +1,8 @@
 -- Available blocks, a word at a time and one after another.
 use Prim.Native.Nat.{ℕ, _-_, _*_, _^_, min}
 use mathlib.Core.List.{List}
-use lib.ListN.{length, getD}
+use lib.ListN.{getD}
 use lib.Bits.{bitAnd, bitOr}
-use Rattle.bitmap.specs.Sizes.{wordBits}
 use Rattle.bitmap.specs.Blocks.{from, isAvailable}
 
 -- the available blocks of word k of a volume of m, as the bits of a word: those with neither bit set, below m
@@ -13,10 +12,6 @@ availableWord m sam «com» k = bitAnd (2 ^ 32 - 1 - bitOr (getD sam k 0) (getD 
 -- the available blocks from p on, rising
 abbrev pub availableFrom : ℕ → List ℕ → List ℕ → ℕ → List ℕ
 availableFrom m sam «com» p = from (isAvailable sam «com») m p
-
--- how many there are from word k on
-abbrev pub countFrom : ℕ → List ℕ → List ℕ → ℕ → ℕ
-countFrom m sam «com» k = length (availableFrom m sam «com» (wordBits * k))
 
 -- the lowest of the available blocks from p on, or m where there is none
 unfoldable pub nextAvailable : ℕ → List ℕ → List ℕ → ℕ → ℕ

@@ -1,4 +1,3 @@
--- Available blocks, counts of them, and what taking them leaves.
+-- Available blocks, and what taking them leaves.
 pub mod Available
-pub mod Count
 pub mod Take

@@ -6,7 +6,7 @@ ghost use Rattle.available.specs.Available.{availableWord};
 use bitmap::Bitmap;
 
 // The available blocks of word k of a volume, as the bits of a word.
-pub(crate) fn available_word(sam: &[u32; 128], com: &[u32; 128], blocks: u32, k: usize) -> u32
+pub fn available_word(sam: &[u32; 128], com: &[u32; 128], blocks: u32, k: usize) -> u32
     requires { ⌜ blocks ≤ maxBlocks ⌝ }
     requires { ⌜ k < wordsFor blocks ⌝ }
     ensures { λ r. ⌜ r ≡ availableWord blocks (now (sam .entry)) (now («com» .entry)) k ⌝ }

@@ -1,25 +1,23 @@
--- The available blocks of a word: which bits they are, and how many.
-use Prim.Native.Nat.{ℕ, zero, suc, _+_, _-_, _*_, _/_, _%_, _^_, _≤_, _<_, min}
-use native.Mathlib.Nat.{sub-zero, add-zero, le-step, lt-of-le-of-lt, mod-eq-of-lt}
+-- The available blocks of a word: which bits they are.
+use Prim.Native.Nat.{ℕ, _+_, _-_, _*_, _%_, _^_, _≤_, _<_, min}
+use native.Mathlib.Nat.{sub-zero, lt-of-le-of-lt, mod-eq-of-lt}
 use native.Mathlib.Omega.{arith}
 use mathlib.Core.Path.{_≡_, refl, sym, ap, ap₂, _∙_}
 use mathlib.Core.Logic.{⊎-elim}
-use mathlib.Core.Bool.{Bool, true, false, not, cond, _&&_, _||_, and-true, and-false}
-use mathlib.Core.List.{List, _∷_}
-use lib.ListN.{length, getD}
-use lib.Arith.{lt-one}
+use mathlib.Core.Bool.{Bool, true, false, not, _&&_, _||_, and-true, and-false}
+use mathlib.Core.List.{List}
+use lib.ListN.{getD}
 use lib.Dec.{ltb}
 use lib.Bits.{bitAnd, bitOr, and-le-l, and-mask, or-lt}
-use lib.Count.{ones, ones-step}
 use lib.Pow.{pow-pos, ones-lt, ones-sub-lt}
 use borrow.Author.Tests.{lt-ltb, le-ltb}
 use Rattle.bitmap.specs.Sizes.{wordBits}
 use Rattle.bitmap.specs.Bits.{isSet, IsBitmap}
 use Rattle.bitmap.specs.Blocks.{from, isAvailable}
-use Rattle.bitmap.proofs.Laws.Word.{isSet-zero, isSet-small, isSet-half, half-and-low, isSet-and, isSet-or, isSet-not}
+use Rattle.bitmap.proofs.Laws.Word.{isSet-zero, isSet-small, isSet-and, isSet-or, isSet-not}
 use Rattle.bitmap.proofs.Laws.Bits.{below-or-from, bit-word}
-use Rattle.bitmap.proofs.Laws.Blocks.{from-step, from-end, from-same}
-use Rattle.available.specs.Available.{availableWord, availableFrom, countFrom}
+use Rattle.bitmap.proofs.Laws.Blocks.{from-same}
+use Rattle.available.specs.Available.{availableWord, availableFrom}
 use Rattle.bitops.proofs.Laws.Block.{shift-one}
 
 -- ---- words
@@ -108,45 +106,3 @@ available-bits m sam «com» k i hs hc h =
     (isSet-neither (getD sam k 0) (getD «com» k 0) i (hs .small k) (hc .small k) h
     ∙ sym (ap₂ (λ (x y : Bool). not x && not y) (bit-word sam k i h) (bit-word «com» k i h)))
     (isSet-ones (min 32 (m - 32 * k)) i ∙ ltb-place m k i h)
-
--- ---- how many there are
-
--- of a test that holds nowhere from m on
-module _ (test : ℕ → Bool) (m : ℕ) (none : (b : ℕ) → m ≤ b → test b ≡ false) where
-  -- a scan takes a block if the test holds there, and goes on, past m too
-  scan-step : (p : ℕ) → from test m p ≡ cond (test p) (p ∷ from test m (suc p)) (from test m (suc p))
-  scan-step p =
-      ⊎-elim (from-step test m p) (λ h. from-end test m p h ∙ rw (none p h) (sym (from-end test m (suc p) (le-step h)))) (below-or-from p m)
-
-  -- one more if the test holds at the first
-  count-step : (p : ℕ) → length (from test m p) ≡ cond (test p) 1 0 + length (from test m (suc p))
-  count-step p = ap length (scan-step p) ∙ go (test p)
-    where
-      go : (t : Bool) → length (cond t (p ∷ from test m (suc p)) (from test m (suc p))) ≡ cond t 1 0 + length (from test m (suc p))
-      go true = omega arith
-      go false = omega arith
-
-  -- the ones of a word whose bits are the test's from p on
-  pub count-word : (n w p : ℕ) → w < 2 ^ n → ((i : ℕ) → i < n → isSet w i ≡ test (p + i)) → ones w + length (from test m (p + n)) ≡ length (from test m p)
-  unfolding ones
-  count-word zero w p h same = rw (lt-one h, add-zero p) (omega arith)
-  count-word (suc n) w p h same =
-      let low = half-and-low w in
-      let first : isSet w 0 ≡ test p = same 0 (omega arith) ∙ ap test (add-zero p) in
-      let rest : ones (w / 2) + length (from test m (suc p + n)) ≡ length (from test m (suc p)) =
-      count-word n (w / 2) (suc p) (omega arith) (λ i l. sym (isSet-half w i) ∙ same (suc i) (omega arith) ∙ ap test (omega arith)) in
-      let end : p + suc n ≡ suc p + n = omega arith in
-      rw end (omega (arith, ones-step w, count-step p, rest, ap {B = ℕ} (λ (t : Bool). cond t 1 0) first))
-
--- the available blocks of word k, and those from the next word on
-pub available-count : (m : ℕ) (sam «com» : List ℕ) (k : ℕ) → IsBitmap sam → IsBitmap «com»
-    → ones (availableWord m sam «com» k) + countFrom m sam «com» (k + 1) ≡ countFrom m sam «com» k
-available-count m sam «com» k hs hc =
-    let e : 32 * (k + 1) ≡ 32 * k + 32 = omega arith in
-    rw (availableFrom-in m sam «com» (32 * (k + 1)), availableFrom-in m sam «com» (32 * k), e)
-    (count-word (isAvailableIn m sam «com») m (availableIn-past m sam «com») 32 (availableWord m sam «com» k) (32 * k)
-    (availableWord-lt m sam «com» k) (λ i l. available-bits m sam «com» k i hs hc l))
-
--- none is left from m on
-pub available-none : (m : ℕ) (sam «com» : List ℕ) (p : ℕ) → m ≤ p → length (availableFrom m sam «com» p) ≡ 0
-available-none m sam «com» p h = ap length (from-end (isAvailable sam «com») m p h)

@@ -1,10 +1,10 @@
--- `available::count::count_available` meets its contract: the words that the volume fills, and the blocks after them.
+-- `counting::count_available` meets its contract: the words that the volume fills, and the blocks after them.
 use native.Mathlib.Omega.{arith}
 use borrow.Author.Needs.{needs}
 use Rattle.bitmap.specs.Blocks.{isAvailable, availableBlocks}
 use Rattle.bitmap.proofs.Laws.Blocks.{from-length}
-use Rattle.available.proofs.count.count_available.Statement.{statement}
-use Rattle.available.proofs.count.count_available.Tie as tie
+use Rattle.counting.proofs.count_available.Statement.{statement}
+use Rattle.counting.proofs.count_available.Tie as tie
 
 count-rest-requires : tie.Need-count-rest-requires
 count-rest-requires c κs = search needs

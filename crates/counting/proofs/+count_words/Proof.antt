@@ -1,20 +1,20 @@
--- `available::count::count_words` meets its contract, by the number of its words: each half has fewer.
+-- `counting::count_words` meets its contract, by the number of its words: each half has fewer.
 use Prim.Native.Nat.{ℕ, _+_, _-_, _<_}
 use native.Mathlib.Omega.{arith}
 use mathlib.Core.Path.{_≡_}
 use borrow.Author.Needs.{needs}
 use borrow.Fn.Kinds.{In}
 use borrow.Fn.PlainCycle.{Measures, is, falls, and}
-use Rattle.available.proofs.Laws.Whole.{count-join, count-fits}
-use Rattle.available.proofs.count.count_words.Reads as count-words
-use Rattle.available.proofs.count.count_words.Kinds as count-words-kinds
-use Rattle.available.proofs.count.+count_words.Lts-count_words as count-words-lts
-use Rattle.available.proofs.count.count_one.Reads as count-one-reads
-use Rattle.available.proofs.count.count_two.Reads as count-two-reads
-use Rattle.available.proofs.count.count_four.Reads as count-four-reads
-use Rattle.available.proofs.count.count_eight.Reads as count-eight-reads
-use Rattle.available.proofs.count.+count_words.{statement}
-use Rattle.available.proofs.count.+count_words.Tie.{close}
+use Rattle.counting.proofs.Laws.Whole.{count-join, count-fits}
+use Rattle.counting.proofs.count_words.Reads as count-words
+use Rattle.counting.proofs.count_words.Kinds as count-words-kinds
+use Rattle.counting.proofs.+count_words.Lts-count_words as count-words-lts
+use Rattle.counting.proofs.count_one.Reads as count-one-reads
+use Rattle.counting.proofs.count_two.Reads as count-two-reads
+use Rattle.counting.proofs.count_four.Reads as count-four-reads
+use Rattle.counting.proofs.count_eight.Reads as count-eight-reads
+use Rattle.counting.proofs.+count_words.{statement}
+use Rattle.counting.proofs.+count_words.Tie.{close}
 
 abbrev μ-count-words : Measures 2 count-words-kinds.ps ℕ
 μ-count-words κs a =

@@ -1,11 +1,11 @@
--- `available::count::count_four` meets its contract: two words and the next two.
+-- `counting::count_four` meets its contract: two words and the next two.
 use Prim.Native.Nat.{_+_}
 use native.Mathlib.Omega.{arith}
 use mathlib.Core.Path.{_≡_}
 use borrow.Author.Needs.{needs}
-use Rattle.available.proofs.Laws.Whole.{count-join, count-le}
-use Rattle.available.proofs.count.count_four.Statement.{statement}
-use Rattle.available.proofs.count.count_four.Tie as tie
+use Rattle.counting.proofs.Laws.Whole.{count-join, count-le}
+use Rattle.counting.proofs.count_four.Statement.{statement}
+use Rattle.counting.proofs.count_four.Tie as tie
 
 count-two-requires : tie.Need-count-two-requires
 count-two-requires c κs = search needs

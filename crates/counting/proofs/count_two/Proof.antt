@@ -1,11 +1,11 @@
--- `available::count::count_two` meets its contract: one word and the next.
+-- `counting::count_two` meets its contract: one word and the next.
 use Prim.Native.Nat.{_+_}
 use native.Mathlib.Omega.{arith}
 use mathlib.Core.Path.{_≡_}
 use borrow.Author.Needs.{needs}
-use Rattle.available.proofs.Laws.Whole.{count-join, count-le}
-use Rattle.available.proofs.count.count_two.Statement.{statement}
-use Rattle.available.proofs.count.count_two.Tie as tie
+use Rattle.counting.proofs.Laws.Whole.{count-join, count-le}
+use Rattle.counting.proofs.count_two.Statement.{statement}
+use Rattle.counting.proofs.count_two.Tie as tie
 
 count-one-requires : tie.Need-count-one-requires
 count-one-requires c κs = search needs

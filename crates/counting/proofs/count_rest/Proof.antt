@@ -1,11 +1,11 @@
--- `available::count::count_rest` meets its contract: past the word that the volume fills in part there is none.
+-- `counting::count_rest` meets its contract: past the word that the volume fills in part there is none.
 use Prim.Native.Nat.{_+_, _*_, _/_}
 use native.Mathlib.Omega.{arith}
 use mathlib.Core.Path.{sym}
 use borrow.Author.Needs.{needs}
-use Rattle.available.proofs.Laws.Available.{available-count, available-none}
-use Rattle.available.proofs.count.count_rest.Statement.{statement}
-use Rattle.available.proofs.count.count_rest.Tie as tie
+use Rattle.counting.proofs.Laws.Available.{available-count, available-none}
+use Rattle.counting.proofs.count_rest.Statement.{statement}
+use Rattle.counting.proofs.count_rest.Tie as tie
 
 returns : tie.Need-returns
 returns c =

@@ -10,8 +10,9 @@ use Rattle.bitmap.specs.Sizes.{wordBits, bitmapWords}
 use Rattle.bitmap.specs.Bits.{IsBitmap}
 use Rattle.bitmap.specs.Blocks.{isAvailable}
 use Rattle.bitmap.proofs.Laws.Blocks.{from-length}
-use Rattle.available.specs.Count.{IsCount}
-use Rattle.available.proofs.Laws.Available.{available-whole, available-count}
+use Rattle.counting.specs.Count.{IsCount}
+use Rattle.available.proofs.Laws.Available.{available-whole}
+use Rattle.counting.proofs.Laws.Available.{available-count}
 
 module _ {sam «com» : List ℕ} where
   -- of one word, the blocks with neither bit

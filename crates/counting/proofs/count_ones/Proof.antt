@@ -1,4 +1,4 @@
--- `available::count::count_ones` meets its contract. The loop's invariant: the ones are those counted so far and those of the words from k on.
+-- `counting::count_ones` meets its contract. The loop's invariant: the ones are those counted so far and those of the words from k on.
 use Prim.Native.Nat.{_+_, _*_, _≤_, _-_}
 use native.Mathlib.Omega.{arith}
 use mathlib.Core.Path.{_≡_}
@@ -7,9 +7,9 @@ use lib.Count.{ones-le}
 use borrow.Author.Needs.{needs}
 use Rattle.bitmap.specs.Sizes.{bitmapWords}
 use Rattle.bitmap.proofs.Laws.Count.{onesOf}
-use Rattle.available.proofs.Laws.Count.{ones-from, ones-end}
-use Rattle.available.proofs.count.count_ones.Statement.{statement}
-use Rattle.available.proofs.count.count_ones.Tie as tie
+use Rattle.counting.proofs.Laws.Count.{ones-from, ones-end}
+use Rattle.counting.proofs.count_ones.Statement.{statement}
+use Rattle.counting.proofs.count_ones.Tie as tie
 
 abbrev Inv-loop : tie.InvT-loop
 Inv-loop words count₀ k₀ count k = (k ≤ bitmapWords) × (count ≤ 32 * k) × (count + onesOf (drop k words) ≡ onesOf words)

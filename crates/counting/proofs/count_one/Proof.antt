@@ -1,8 +1,8 @@
--- `available::count::count_one` meets its contract: the ones of the word are the available blocks.
+-- `counting::count_one` meets its contract: the ones of the word are the available blocks.
 use borrow.Author.Needs.{needs}
-use Rattle.available.proofs.Laws.Whole.{count-one}
-use Rattle.available.proofs.count.count_one.Statement.{statement}
-use Rattle.available.proofs.count.count_one.Tie as tie
+use Rattle.counting.proofs.Laws.Whole.{count-one}
+use Rattle.counting.proofs.count_one.Statement.{statement}
+use Rattle.counting.proofs.count_one.Tie as tie
 
 mul-result : tie.Need-mul-result
 mul-result c = search needs

@@ -6,9 +6,8 @@ ghost use Rattle.bitmap.specs.Sizes.{maxBlocks, wordBits};
 ghost use Rattle.bitmap.specs.Bits.{IsBitmap};
 ghost use Rattle.bitmap.specs.Blocks.{availableBlocks};
 ghost use Rattle.bitmap.proofs.Laws.Count.{onesOf};
-ghost use Rattle.available.specs.Available.{countFrom};
-ghost use Rattle.available.specs.Count.{CanCount, IsCount};
-use crate::available::available_word;
+ghost use Rattle.counting.specs.Count.{countFrom, CanCount, IsCount};
+use available::available::available_word;
 use bitmap::Bitmap;
 
 // The number of bits that are 1.

@@ -1,11 +1,11 @@
--- `available::count::count_eight` meets its contract: four words and the next four.
+-- `counting::count_eight` meets its contract: four words and the next four.
 use Prim.Native.Nat.{_+_}
 use native.Mathlib.Omega.{arith}
 use mathlib.Core.Path.{_≡_}
 use borrow.Author.Needs.{needs}
-use Rattle.available.proofs.Laws.Whole.{count-join, count-le}
-use Rattle.available.proofs.count.count_eight.Statement.{statement}
-use Rattle.available.proofs.count.count_eight.Tie as tie
+use Rattle.counting.proofs.Laws.Whole.{count-join, count-le}
+use Rattle.counting.proofs.count_eight.Statement.{statement}
+use Rattle.counting.proofs.count_eight.Tie as tie
 
 count-four-requires : tie.Need-count-four-requires
 count-four-requires c κs = search needs

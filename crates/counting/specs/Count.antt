@@ -2,9 +2,14 @@
 use Prim.Native.Nat.{ℕ, _+_, _*_, _≤_, _<_}
 use mathlib.Core.Path.{_≡_}
 use mathlib.Core.List.{List}
+use lib.ListN.{length}
 use Rattle.bitmap.specs.Sizes.{wordBits, bitmapWords}
 use Rattle.bitmap.specs.Bits.{IsBitmap}
-use Rattle.available.specs.Available.{countFrom}
+use Rattle.available.specs.Available.{availableFrom}
+
+-- how many available blocks there are from word k on
+abbrev pub countFrom : ℕ → List ℕ → List ℕ → ℕ → ℕ
+countFrom m sam «com» k = length (availableFrom m sam «com» (wordBits * k))
 
 -- two bitmaps, and some words of theirs, from lo up to hi
 pub record CanCount (sam «com» : List ℕ) (lo hi : ℕ) : Type 0 where
