@@ -3,13 +3,12 @@ use Prim.Native.Nat.{ℕ, suc, _+_, _*_, _≤_}
 use mathlib.Core.Path.{_≡_}
 use mathlib.Core.List.{List}
 use lib.ListN.{length, take}
-use Rattle.model_types.specs.Memory.{zeroMemory}
 use Rattle.model.specs.Bench.{maxLines}
 use Rattle.bench_answer.specs.Put.{maxAnswer}
+use Rattle.bench_state.specs.declared.run.Run.{Run}
+use Rattle.bench_state.specs.Keep.{kept, keptRoom}
 use Rattle.bench_step.specs.Cut.{NoEnd}
 use Rattle.bench_step.specs.Output.{State, stateOf}
-use Rattle.bench_piece.specs.declared.piece.Run.{Run}
-use Rattle.bench_piece.specs.Keep.{kept, keptRoom}
 
 -- its state, with what is printed
 abbrev pub runState : (printed : List ℕ) → Run → (line disk : List ℕ) → State
@@ -27,7 +26,3 @@ pub record Between (run : Run) (line : List ℕ) : Type 0 where
 pub record Room (piece : ℕ) (line out : List ℕ) : Type 0 where
   pub kept-fits : length line ≡ keptRoom
   pub answers-fit : maxAnswer * (keptRoom + piece) ≤ length out
-
--- before the first line
-abbrev pub begun : Run
-begun = record { memory = zeroMemory; len = 0; number = 1 }

@@ -1,4 +1,3 @@
--- The bytes kept of a line, the state between two pieces, and a piece.
-pub mod Keep
+-- The state between two pieces, and a piece.
 pub mod Between
 pub mod Piece

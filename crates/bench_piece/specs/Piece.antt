@@ -6,10 +6,10 @@ use lib.ListN.{length, take}
 use Rattle.model.specs.Line.{newline}
 use Rattle.model.specs.Bench.{maxLines}
 use Rattle.bench_answer.specs.Put.{maxAnswer}
+use Rattle.bench_state.specs.Keep.{keptRoom}
 use Rattle.bench_step.specs.declared.lines.Lines.{Lines}
 use Rattle.bench_step.specs.Output.{State, Leads, allOf, stateOf}
 use Rattle.bench_piece.specs.declared.piece.Piece.{Piece}
-use Rattle.bench_piece.specs.Keep.{keptRoom}
 use Rattle.bench_piece.specs.Between.{Between, runState}
 
 -- a line that was kept has ended: byte 10 leads on, and no byte of a line stands

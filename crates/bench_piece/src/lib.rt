@@ -1,3 +1,2 @@
 // A piece of the bench program's input: its lines answered, and the bytes behind the last of them kept.
-mod keep;
 pub mod piece;

@@ -7,36 +7,16 @@ ghost use lib.Dec.{leb, ltb};
 ghost use lib.ListN.{length, take};
 ghost use Rattle.model.specs.Bench.{maxLines};
 ghost use Rattle.bench_answer.specs.Put.{maxAnswer};
+ghost use Rattle.bench_state.specs.Keep.{keptRoom};
 ghost use Rattle.bench_step.specs.Output.{stateOf};
-ghost use Rattle.bench_piece.specs.Keep.{keptRoom};
-ghost use Rattle.bench_piece.specs.Between.{Between, Room, runState, begun};
+ghost use Rattle.bench_piece.specs.Between.{Between, Room, runState};
 ghost use Rattle.bench_piece.specs.Piece.{LineEnded, PieceRun, LastLine};
-use crate::keep::keep;
 use bench_line::MAX_LINES;
+use bench_state::keep::keep;
+use bench_state::run::Run;
 use bench_step::cut::line_end;
 use bench_step::lines::Lines;
 use bench_step::lines::answer_lines;
-use model_types::memory::Memory;
-
-// Between two pieces: the memory, how many bytes of a line are kept, and the next line's number.
-pub struct Run {
-    pub memory: Memory,
-    pub len: usize,
-    pub number: u32,
-}
-
-impl Run {
-    // Before the first line.
-    pub fn new() -> Run
-        ensures { λ r. ⌜ r ≡ begun ⌝ }
-    {
-        Run {
-            memory: Memory::zero(),
-            len: 0,
-            number: 1,
-        }
-    }
-}
 
 // After a piece: the state, the end of what is printed, and whether more is to be read.
 pub struct Piece {

@@ -12,14 +12,14 @@ use borrow.Author.Tests.{leb-true, leb-false}
 use Rattle.model_types.specs.declared.memory.Memory.{Memory}
 use Rattle.model.specs.Line.{newline}
 use Rattle.model.specs.Bench.{benchOf, maxLines}
+use Rattle.bench_state.specs.declared.run.Run.{Run}
+use Rattle.bench_state.specs.Keep.{keptRoom}
 use Rattle.bench_step.specs.declared.lines.Lines.{Lines}
 use Rattle.bench_step.specs.Cut.{NoEnd}
 use Rattle.bench_step.specs.Output.{State, Leads, allOf, outputOf, stateOf}
 use Rattle.bench_step.specs.Lines.{Answered}
 use Rattle.bench_step.proofs.Laws.Output.{output-last, output-none}
 use Rattle.bench_step.proofs.Laws.Leads.{leads-past, leads-bytes}
-use Rattle.bench_piece.specs.declared.piece.Run.{Run}
-use Rattle.bench_piece.specs.Keep.{keptRoom}
 use Rattle.bench_piece.specs.Between.{Between, runState}
 use Rattle.bench_piece.specs.Piece.{LineEnded}
 

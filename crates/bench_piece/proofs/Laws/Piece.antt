@@ -9,15 +9,15 @@ use lib.ListN.{length, take, drop, length-drop, length-take, take-append-drop}
 use lib.Seq.{length-take-le, take-all, take-length}
 use Rattle.model.specs.Line.{newline}
 use Rattle.bench_answer.specs.Put.{maxAnswer}
+use Rattle.bench_state.specs.declared.run.Run.{Run}
+use Rattle.bench_state.specs.Keep.{Keeps, kept}
 use Rattle.bench_step.specs.declared.lines.Lines.{Lines}
 use Rattle.bench_step.specs.Cut.{NoEnd, EndAt}
 use Rattle.bench_step.specs.Output.{Leads, stateOf}
 use Rattle.bench_step.specs.Lines.{Answered}
 use Rattle.bench_step.proofs.Laws.Cut.{line-none, end-rest}
 use Rattle.bench_step.proofs.Laws.Leads.{leads-then, leads-bytes, leads-kept}
-use Rattle.bench_piece.specs.declared.piece.Run.{Run}
 use Rattle.bench_piece.specs.declared.piece.Piece.{Piece}
-use Rattle.bench_piece.specs.Keep.{Keeps, kept}
 use Rattle.bench_piece.specs.Between.{Between, runState}
 use Rattle.bench_piece.specs.Piece.{LineEnded, PieceRun}
 use Rattle.bench_piece.proofs.Laws.Keep.{none-kept}

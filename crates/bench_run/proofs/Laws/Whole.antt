@@ -14,12 +14,13 @@ use Rattle.model.specs.Bench.{benchStart, benchOf, benchOutput, maxLines}
 use Rattle.bench_answer.specs.Put.{maxAnswer}
 use Rattle.bench_step.specs.Output.{State, Leads, allOf, outputOf, stateOf}
 use Rattle.bench_step.proofs.Laws.Output.{output-is, output-past}
-use Rattle.bench_piece.specs.declared.piece.Run.{Run}
+use Rattle.bench_state.specs.declared.run.Run.{Run}
+use Rattle.bench_state.specs.Begun.{begun}
 use Rattle.bench_piece.specs.declared.piece.Piece.{Piece}
 use Rattle.bench_run.specs.declared.reading.Read.{Read}
 use Rattle.bench_run.specs.declared.writing.Written.{Written}
 use Rattle.bench_run.specs.declared.Progress.{Progress}
-use Rattle.bench_piece.specs.Between.{Between, runState, begun}
+use Rattle.bench_piece.specs.Between.{Between, runState}
 use Rattle.bench_piece.specs.Piece.{PieceRun, LastLine}
 use Rattle.bench_run.specs.Whole.{Reached, Stopped, AllRead, Whole}
 

@@ -4,7 +4,7 @@ use mathlib.Core.Path.{_≡_, refl, sym, _∙_}
 use native.Mathlib.Omega.{arith}
 use lib.ListN.{length}
 use denote.Ref.{now}
-use Rattle.bench_piece.specs.Keep.{keptRoom}
+use Rattle.bench_state.specs.Keep.{keptRoom}
 use Rattle.bench_run.proofs.Laws.Whole.{Reading, reading-start, reading-ends, reading-more, reading-done, fewer-left}
 use Rattle.bench_run.proofs.read_all.Statement.{statement}
 use Rattle.bench_run.proofs.read_all.Tie as tie

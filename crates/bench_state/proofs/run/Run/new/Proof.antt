@@ -1,11 +1,11 @@
 use mathlib.Core.Path.{ap}
 use borrow.Author.Needs.{needs}
 use Rattle.model_types.specs.declared.memory.Memory.{Memory}
-use Rattle.bench_piece.specs.declared.piece.Run.{Run}
-use Rattle.bench_piece.proofs.piece.Run.new.Statement.{statement}
-use Rattle.bench_piece.proofs.piece.Run.new.Tie as tie
-use Rattle.bench_piece.proofs.piece.Run.new.Reads as reads
-use Rattle.bench_piece.proofs.piece.Run.new.Lts as lts
+use Rattle.bench_state.specs.declared.run.Run.{Run}
+use Rattle.bench_state.proofs.run.Run.new.Statement.{statement}
+use Rattle.bench_state.proofs.run.Run.new.Tie as tie
+use Rattle.bench_state.proofs.run.Run.new.Reads as reads
+use Rattle.bench_state.proofs.run.Run.new.Lts as lts
 use Rattle.model_types.proofs.memory.Memory.zero.Reads as zero-reads
 
 zero-requires : tie.Need-zero-requires

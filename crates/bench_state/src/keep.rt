@@ -2,7 +2,7 @@
 ghost use mathlib.Core.Path.{_≡_};
 ghost use Prim.Native.Nat.{_≤_};
 ghost use lib.ListN.{length};
-ghost use Rattle.bench_piece.specs.Keep.{Fitting, Keeps, kept, keptRoom};
+ghost use Rattle.bench_state.specs.Keep.{Fitting, Keeps, kept, keptRoom};
 
 // The bytes kept of a line: one more than a line may have.
 const KEPT: usize = 65;
@@ -17,7 +17,7 @@ fn fitting(part: &[u8], len: usize) -> usize
 }
 
 // Keeps a part of a line behind the line's first len bytes. Of a longer line the first 65 are kept.
-pub(crate) fn keep(part: &[u8], line: &mut [u8], len: usize) -> usize
+pub fn keep(part: &[u8], line: &mut [u8], len: usize) -> usize
     requires { ⌜ len ≤ kept ⌝ }
     requires { ⌜ length (now line) ≡ keptRoom ⌝ }
     ensures { λ r. ⌜ Keeps (now (part .entry)) (now (line .entry)) len (now (line .exit)) r ⌝ }

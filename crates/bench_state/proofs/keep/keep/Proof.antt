@@ -6,10 +6,10 @@ use native.Mathlib.Numerals.{add-one}
 use native.Mathlib.Omega.{arith}
 use lib.ListN.{length, getD, set, length-set}
 use lib.Seq.{paste, paste-zero, paste-suc}
-use Rattle.bench_piece.specs.Keep.{Fitting}
-use Rattle.bench_piece.proofs.Laws.Keep.{keeps-paste}
-use Rattle.bench_piece.proofs.keep.keep.Statement.{statement}
-use Rattle.bench_piece.proofs.keep.keep.Tie as tie
+use Rattle.bench_state.specs.Keep.{Fitting}
+use Rattle.bench_state.proofs.Laws.Keep.{keeps-paste}
+use Rattle.bench_state.proofs.keep.keep.Statement.{statement}
+use Rattle.bench_state.proofs.keep.keep.Tie as tie
 
 abbrev Inv-loop : tie.InvT-loop
 Inv-loop part line₀ len count i₀ line i = (i ≤ count) × (line ≡ paste line₀ len part i) × (length line ≡ length line₀) × Fitting part len count

@@ -1,0 +1,2 @@
+-- The bytes kept.
+pub mod Keep
