@@ -1,16 +1,13 @@
 -- What is left: the blocks at which COM differs from SAM, less those that the slots passed have touched.
 use Prim.Native.Nat.{ℕ, _-_, _^_}
 use mathlib.Core.Path.{_≡_}
-use mathlib.Core.Bool.{Bool, true, false}
+use mathlib.Core.Bool.{Bool}
 use mathlib.Core.List.{List, [], _∷_}
-use lib.ListN.{getD, replicate}
+use lib.ListN.{getD}
 use lib.Bits.{bitAnd, bitXor}
 use lib.Dec.{eqb}
 use Rattle.bitmap.specs.Sizes.{wordBits, bitmapWords}
 use Rattle.bitmap.specs.Blocks.{allBelow}
-use Rattle.model_types.specs.declared.memory.SlotState.{SlotState}
-use Rattle.model_types.specs.Memory.{isActive}
-use Rattle.model.specs.Valid.{sameWords}
 
 -- the blocks at which two bitmaps differ
 unfoldable pub differ : List ℕ → List ℕ → List ℕ
@@ -30,13 +27,3 @@ allLeft left touched = allBelow bitmapWords (wordLeft left touched)
 pub record TouchedTaken (left touched : List ℕ) (r : Bool) (left' : List ℕ) : Type 0 where
   pub answer : r ≡ allLeft left touched
   pub rest : left' ≡ differ left touched
-
--- an idle slot's bitmap is to be empty, and what is left stays
-pub record IdleTaken (left tam : List ℕ) (r : Bool) (left' : List ℕ) : Type 0 where
-  pub answer : r ≡ sameWords tam (replicate bitmapWords 0)
-  pub rest : left' ≡ left
-
--- a slot taken, as its state says
-pub record SlotTaken (state : SlotState) (left sam tam : List ℕ) (r : Bool) (left' : List ℕ) : Type 0 where
-  pub idle : isActive state ≡ false → IdleTaken left tam r left'
-  pub active : isActive state ≡ true → TouchedTaken left (differ tam sam) r left'

@@ -3,10 +3,8 @@ ghost use mathlib.Core.Path.{_≡_};
 ghost use lib.ListN.{length};
 ghost use Rattle.bitmap.specs.Bits.{IsBitmap};
 ghost use Rattle.bitmap.specs.Sizes.{bitmapWords};
-ghost use Rattle.touches.specs.Left.{differ, TouchedTaken, SlotTaken};
+ghost use Rattle.touches.specs.Left.{differ, TouchedTaken};
 use bitmap::Bitmap;
-use bitops::compare::is_empty;
-use model_types::memory::SlotState;
 
 // Puts the blocks at which COM differs from SAM into left.
 pub fn differences<'a>(left: &mut [u32; 128], sam: &'a [u32; 128], com: &'a [u32; 128])
@@ -35,22 +33,4 @@ pub fn take_touched(left: &mut [u32; 128], sam: &[u32; 128], tam: &[u32; 128]) -
         left[k] = left[k] ^ touched;
     }
     wrong == 0
-}
-
-// Whether a slot's bitmap is empty if it is idle. What one that isn't idle has touched must be left, and is taken.
-pub fn take_slot(
-    state: SlotState,
-    left: &mut [u32; 128],
-    sam: &[u32; 128],
-    tam: &[u32; 128],
-) -> bool
-    requires { ⌜ IsBitmap (now left) ⌝ }
-    requires { ⌜ IsBitmap (now sam) ⌝ }
-    requires { ⌜ IsBitmap (now tam) ⌝ }
-    ensures { λ r. ⌜ SlotTaken state (now (left .entry)) (now (sam .entry)) (now (tam .entry)) r (now (left .exit)) ⌝ }
-{
-    if !state.is_active() {
-        return is_empty(tam);
-    }
-    take_touched(left, sam, tam)
 }

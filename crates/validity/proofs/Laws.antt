@@ -1,4 +1,5 @@
--- Laws of `valid`, and of what is left while it is tested.
+-- Laws of `valid`, and of what is left while it is tested. And of a callee's answer.
+pub mod Answers
 pub mod Slots
 pub mod LeftBits
 pub mod Passed

@@ -14,7 +14,7 @@ use model_types::memory::Slot;
 use pending::commit_valid;
 use pending::recovery_valid;
 use touches::touch::differences;
-use touches::touch::take_slot;
+use touches::touch::take_touched;
 
 pub mod bits;
 pub mod pending;
@@ -39,7 +39,15 @@ pub fn maps_valid<'a>(
     for s in 0..Bitmap::SLOTS {
         let slot = slots[s];
         let state = slot.state;
-        if !take_slot(state, &mut left, sam, &slot.tam.words) {
+        // Each arm reads the slot by itself: a slot read for both would be copied in each turn.
+        let fits = if state.is_active() {
+            let active = slots[s];
+            take_touched(&mut left, sam, &active.tam.words)
+        } else {
+            let idle = slots[s];
+            is_empty(&idle.tam.words)
+        };
+        if !fits {
             return false;
         }
     }
@@ -70,7 +78,8 @@ pub fn valid<'a>(
                 return false;
             }
             let state = owner.state;
-            commit_valid(state, sam, &owner.tam.words, done, due)
+            let tam = owner.tam;
+            commit_valid(state, sam, &tam.words, done, due)
         }
         Pending::Recovery { done, due } => recovery_valid(blocks, sam, com, slots, done, due),
     }

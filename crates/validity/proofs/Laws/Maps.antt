@@ -21,9 +21,8 @@ use Rattle.model.proofs.Laws.DiskParts.{inRange-low, inRange-high}
 use Rattle.model.proofs.Laws.Valid.{ValidParts, valid-parts, parts-valid, touchesBlock, touches-one, noBits-empty}
 use Rattle.model.proofs.Laws.Touches.{one, differs, active-valid}
 use Rattle.model_types.proofs.Laws.Shape.{Shaped}
-use Rattle.touches.specs.Left.{SlotTaken}
 use Rattle.validity.proofs.Laws.Slots.{bool-ext, not-true-false, allSlots-all}
-use Rattle.validity.proofs.Laws.Passed.{Passed}
+use Rattle.validity.proofs.Laws.Passed.{Passed, SlotTaken}
 use Rattle.validity.proofs.Laws.Right.{no-differs, passed-all, slot-right, left-none}
 
 -- ---- refused
@@ -41,7 +40,7 @@ volume-wrong memory e = sym (ap (λ (t : Bool). t && allSlots (slotValid (memory
 
 module _ (memory : Memory) (shape : Shaped memory) where
   pub slot-wrong : (s : ℕ) (left left' : List ℕ) → Passed memory s left
-      → SlotTaken (slotAt memory s .state) left (memory .sam .words) (slotAt memory s .tam .words) false left' → false ≡ valid memory
+      → SlotTaken (slotAt memory s) left (memory .sam .words) false left' → false ≡ valid memory
   slot-wrong s left left' passed taken =
       not-true-false (valid memory) (λ h. false≢true (slot-right memory shape (valid-parts memory h) s left left' false passed taken))
 

@@ -15,12 +15,12 @@ use Rattle.bitmap.proofs.Laws.Bits.{below-or-from}
 use Rattle.model_types.specs.declared.memory.Slot.{Slot}
 use Rattle.model_types.specs.declared.memory.Memory.{Memory}
 use Rattle.model_types.specs.Memory.{idleSlot, slotAt, isActive}
-use Rattle.model.specs.Valid.{touched, touches}
+use Rattle.model.specs.Valid.{touched, sameWords, touches}
 use Rattle.model.proofs.Laws.Writes.{same-words}
 use Rattle.model.proofs.Laws.Valid.{touchesBlock}
 use Rattle.model.proofs.Laws.Touches.{one, differs}
 use Rattle.model_types.proofs.Laws.Shape.{Shaped}
-use Rattle.touches.specs.Left.{differ, SlotTaken}
+use Rattle.touches.specs.Left.{differ, TouchedTaken}
 use Rattle.touches.proofs.Laws.Differ.{differ-is}
 use Rattle.validity.proofs.Laws.LeftBits.{bit-differ, left-bits}
 
@@ -49,10 +49,29 @@ passed-none memory shape =
       empty = λ k l. absurd (not-suc-le-zero l);
     }
 
--- the same slot, under another name
-pub taken-same : {slot other : Slot} {r t : Bool} (left sam left' : List ℕ) → slot ≡ other → r ≡ t
-    → SlotTaken (slot .state) left sam (slot .tam .words) r left' → SlotTaken (other .state) left sam (other .tam .words) t left'
-taken-same left sam left' e f taken = rw (← e, ← f) taken
+-- ---- a slot taken
+
+-- an idle slot's bitmap is to be empty, and what is left stays
+pub record IdleTaken (left tam : List ℕ) (r : Bool) (left' : List ℕ) : Type 0 where
+  pub answer : r ≡ sameWords tam (replicate bitmapWords 0)
+  pub rest : left' ≡ left
+
+-- as its state says
+pub record SlotTaken (slot : Slot) (left sam : List ℕ) (r : Bool) (left' : List ℕ) : Type 0 where
+  pub idle : isActive (slot .state) ≡ false → IdleTaken left (slot .tam .words) r left'
+  pub active : isActive (slot .state) ≡ true → TouchedTaken left (differ (slot .tam .words) sam) r left'
+
+module _ {slot : Slot} {left sam : List ℕ} {r : Bool} {left' : List ℕ} where
+  pub idle-taken : isActive (slot .state) ≡ false → IdleTaken left (slot .tam .words) r left' → SlotTaken slot left sam r left'
+  idle-taken i taken = record { idle = λ _. taken; active = λ a. absurd (false≢true (sym i ∙ a)) }
+
+  pub active-taken : isActive (slot .state) ≡ true → TouchedTaken left (differ (slot .tam .words) sam) r left' → SlotTaken slot left sam r left'
+  active-taken a taken = record { idle = λ i. absurd (false≢true (sym i ∙ a)); active = λ _. taken }
+
+-- the same slot and answer, under other names
+pub taken-same : {slot other : Slot} {left sam left' : List ℕ} {r t : Bool} → slot ≡ other → r ≡ t → SlotTaken slot left sam r left'
+    → SlotTaken other left sam t left'
+taken-same e f taken = rw (← e, ← f) taken
 
 -- a touch taken from what is left
 taken-one : (l t : Bool) → (t ≡ true → l ≡ true) → one t + one (xor l t) ≡ one l
@@ -63,7 +82,7 @@ taken-one false true h = absurd (false≢true (h refl))
 taken-one false false h = refl
 
 module _ (memory : Memory) (s : ℕ) (left left' : List ℕ) (shape : Shaped memory) (below : s < slotCount) (passed : Passed memory s left)
-    (taken : SlotTaken (slotAt memory s .state) left (memory .sam .words) (slotAt memory s .tam .words) true left') where
+    (taken : SlotTaken (slotAt memory s) left (memory .sam .words) true left') where
   abbrev slot : Slot
   slot = slotAt memory s
 

@@ -18,10 +18,10 @@ use Rattle.model.proofs.Laws.Writes.{and-second, words-same}
 use Rattle.model.proofs.Laws.Valid.{ValidParts, allSlots-at, touches-at, touchesBlock, idle-valid, slot-below}
 use Rattle.model.proofs.Laws.Touches.{one, differs}
 use Rattle.model_types.proofs.Laws.Shape.{Shaped, empty-is}
-use Rattle.touches.specs.Left.{differ, SlotTaken}
+use Rattle.touches.specs.Left.{differ}
 use Rattle.touches.proofs.Laws.Differ.{differ-is}
 use Rattle.validity.proofs.Laws.LeftBits.{bit-differ, bits-left}
-use Rattle.validity.proofs.Laws.Passed.{Passed}
+use Rattle.validity.proofs.Laws.Passed.{Passed, SlotTaken}
 
 one-true : (t : Bool) → 1 ≤ one t → t ≡ true
 one-true true h = refl
@@ -93,7 +93,7 @@ module _ (memory : Memory) (shape : Shaped memory) (parts : ValidParts memory) w
 
   -- each slot is found right
   pub slot-right : (s : ℕ) (left left' : List ℕ) (r : Bool) → Passed memory s left
-      → SlotTaken (slotAt memory s .state) left (memory .sam .words) (slotAt memory s .tam .words) r left' → r ≡ true
+      → SlotTaken (slotAt memory s) left (memory .sam .words) r left' → r ≡ true
   slot-right s left left' r passed taken = go (isActive (slotAt memory s .state)) refl
     where
       go : (a : Bool) → isActive (slotAt memory s .state) ≡ a → r ≡ true

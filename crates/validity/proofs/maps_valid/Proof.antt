@@ -1,9 +1,11 @@
 -- Each way out is a law of `valid`. The loop's invariant says what the slots passed leave.
 use Prim.Native.Nat.{_-_}
 use native.Mathlib.Omega.{arith}
-use mathlib.Core.Path.{_≡_, refl}
+use mathlib.Core.Path.{_≡_, refl, sym, _∙_}
+use mathlib.Core.Logic.{⊎-elim}
 use mathlib.Core.Bool.{Bool, true, false}
 use lib.ListN.{getD}
+use borrow.Author.Needs.{needs}
 use borrow.Author.Tests.{not-true, not-false}
 use Rattle.bitmap.specs.Sizes.{slotCount}
 use Rattle.model_types.specs.declared.memory.Slot.{Slot}
@@ -11,10 +13,9 @@ use Rattle.model_types.specs.declared.memory.Pending.{Pending}
 use Rattle.model_types.specs.declared.memory.Memory.{Memory}
 use Rattle.model_types.specs.Memory.{bitmap, memoryOf, slotAt}
 use Rattle.model_types.proofs.Laws.Shape.{Shaped, slots-shaped, slot-read}
-use Rattle.touches.specs.Left.{SlotTaken}
-use Rattle.touches.proofs.Laws.Answers.{taken-false, left-true}
+use Rattle.validity.proofs.Laws.Answers.{taken-false, left-true}
 use Rattle.validity.proofs.Laws.Slots.{parts-shaped}
-use Rattle.validity.proofs.Laws.Passed.{Passed, passed-none, taken-same, passed-more}
+use Rattle.validity.proofs.Laws.Passed.{Passed, passed-none, SlotTaken, idle-taken, active-taken, taken-same, passed-more}
 use Rattle.validity.proofs.Laws.Maps.{volumeValid, volume-wrong, slot-wrong, left-decides}
 use Rattle.validity.proofs.maps_valid.Statement.{statement}
 use Rattle.validity.proofs.maps_valid.Tie as tie
@@ -48,18 +49,23 @@ slot-at : (c : tie.In-loop Inv-loop μ-loop) (d : Slot)
 slot-at c d = slot-read (memory-at (start (c .before))) d (c .before .loop .s) (shape-at (start (c .before))) (c .loop-test .taken)
 
 -- where it is taken
-abbrev turn : tie.After-take-slot Inv-loop μ-loop → tie.In-loop Inv-loop μ-loop
-turn c = c .before .before .before .before .before
+abbrev turn : tie.Joined2 Inv-loop μ-loop → tie.In-loop Inv-loop μ-loop
+turn c = c .before .before .before
 
-taken-at : (c : tie.After-take-slot Inv-loop μ-loop) (r : Bool) → c .take-slot .result ≡ r
+taken-at : (c : tie.Joined2 Inv-loop μ-loop) (r : Bool) → c .if2 .fits ≡ r
     → SlotTaken
-    (slotAt (memory-at (start (turn c .before))) (turn c .before .loop .s) .state)
+    (slotAt (memory-at (start (turn c .before))) (turn c .before .loop .s))
     (turn c .before .loop .left)
     (start (turn c .before) .args .sam .now)
-    (slotAt (memory-at (start (turn c .before))) (turn c .before .loop .s) .tam .words)
     r
-    (c .take-slot .last .1 .0)
-taken-at c r e = taken-same _ _ _ (slot-at (turn c) _) e (c .take-slot .ensures)
+    (c .if2 .left)
+taken-at c r e =
+    let state = c .before .is-active .ensures in
+    taken-same (slot-at (turn c) _) e
+    (⊎-elim
+    (λ w. active-taken (sym state ∙ w .0 .taken) (record { answer = w .7 ∙ w .5 .ensures .answer; rest = w .6 ∙ w .5 .ensures .rest }))
+    (λ w. idle-taken (sym state ∙ w .0 .left) (record { answer = w .6 ∙ w .4 .ensures; rest = w .5 }))
+    (c .if2 .came))
 
 -- ---- the answers
 
@@ -83,17 +89,37 @@ mul-slot c = omega arith
 array-copy-out-slot : tie.Need-array-copy-out-slot Inv-loop μ-loop
 array-copy-out-slot c = omega arith
 
-take-slot-requires : tie.Need-take-slot-requires Inv-loop μ-loop
-take-slot-requires c κs =
-    let at = c .before .before .before .before in
+is-active-requires : tie.Need-is-active-requires Inv-loop μ-loop
+is-active-requires c κs = search needs
+
+mul-active : tie.Need-mul-active Inv-loop μ-loop
+mul-active c = omega arith
+
+array-copy-out-active : tie.Need-array-copy-out-active Inv-loop μ-loop
+array-copy-out-active c = omega arith
+
+take-touched-requires : tie.Need-take-touched-requires Inv-loop μ-loop
+take-touched-requires c κs =
+    let at = c .before .before .before .before .before .before .before in
     let shape = shape-at (start (at .before)) in
     (at .before .loop .inv .is, (shape .sam, rw (slot-at at _) (shape .tam (at .before .loop .s))))
+
+mul-idle : tie.Need-mul-idle Inv-loop μ-loop
+mul-idle c = omega arith
+
+array-copy-out-idle : tie.Need-array-copy-out-idle Inv-loop μ-loop
+array-copy-out-idle c = omega arith
+
+is-empty-requires : tie.Need-is-empty-requires Inv-loop μ-loop
+is-empty-requires c κs =
+    let at = c .before .before .before .before .before .before in
+    rw (slot-at at _) (shape-at (start (at .before)) .tam (at .before .loop .s))
 
 returns-2 : tie.Need-returns-2 Inv-loop μ-loop
 returns-2 c =
     let at = turn (c .before) .before in
     slot-wrong (memory-at (start at)) (shape-at (start at)) (at .loop .s) (at .loop .left) _ (at .loop .inv)
-    (taken-at (c .before) false (not-true _ (c .if2 .taken)))
+    (taken-at (c .before) false (not-true _ (c .if3 .taken)))
 
 add-s : tie.Need-add-s Inv-loop μ-loop
 add-s c = omega arith
@@ -105,16 +131,16 @@ loop-again : tie.Need-loop-again Inv-loop μ-loop
 loop-again c =
     let at = turn (c .before) .before in
     passed-more (memory-at (start at)) (at .loop .s) (at .loop .left) _ (shape-at (start at)) (turn (c .before) .loop-test .taken) (at .loop .inv)
-    (taken-at (c .before) true (not-false _ (c .if2 .left)))
+    (taken-at (c .before) true (not-false _ (c .if3 .left)))
 
-is-empty-requires : tie.Need-is-empty-requires Inv-loop μ-loop
-is-empty-requires c κs = c .before .before .loop .inv .is
+is-empty-requires-2 : tie.Need-is-empty-requires-2 Inv-loop μ-loop
+is-empty-requires-2 c κs = c .before .before .loop .inv .is
 
 returns-3 : tie.Need-returns-3 Inv-loop μ-loop
 returns-3 c =
     let at = c .before .before .before in
     let all : at .loop .s ≡ slotCount = omega arith in
-    left-decides (memory-at (start at)) (shape-at (start at)) (at .loop .left) _ refl (volume-at at) (rw all at (at .loop .inv)) (c .is-empty .ensures)
+    left-decides (memory-at (start at)) (shape-at (start at)) (at .loop .left) _ refl (volume-at at) (rw all at (at .loop .inv)) (c .is-empty2 .ensures)
 
 pub maps-valid-spec : {M : Type 1} → statement M
 maps-valid-spec =
@@ -128,10 +154,16 @@ maps-valid-spec =
     loop-holds
     mul-slot
     array-copy-out-slot
-    take-slot-requires
+    is-active-requires
+    mul-active
+    array-copy-out-active
+    take-touched-requires
+    mul-idle
+    array-copy-out-idle
+    is-empty-requires
     returns-2
     add-s
     loop-less
     loop-again
-    is-empty-requires
+    is-empty-requires-2
     returns-3)

@@ -10,7 +10,7 @@ use Rattle.model_types.specs.Pending.{ownerOf}
 use Rattle.model.specs.Valid.{valid}
 use Rattle.model.proofs.Laws.Valid.{valid-parts}
 use Rattle.model_types.proofs.Laws.Shape.{Shaped, slots-shaped}
-use Rattle.touches.proofs.Laws.Answers.{taken-false, left-true}
+use Rattle.validity.proofs.Laws.Answers.{taken-false, left-true}
 use Rattle.validity.proofs.Laws.Slots.{parts-shaped}
 use Rattle.validity.proofs.Laws.Checked.{maps-wrong, checked-nothing, checked-past, checked-commit, checked-recovery}
 use Rattle.validity.proofs.valid.Statement.{statement}
@@ -24,11 +24,11 @@ memory-at c = memoryOf (c .args .blocks) (bitmap (c .args .sam .now)) (bitmap (c
 shape-at : (c : tie.Start) → Shaped (memory-at c)
 shape-at c = parts-shaped (c .pre .0) (c .pre .1 .0) (slots-shaped (c .args .slots) _ (c .good .1 .1 .1 .0))
 
-owner-at : (c : tie.Start) → c .args .t6 ≡ slotAt (memory-at c) (ownerOf (c .args .pending))
+owner-at : (c : tie.Start) → c .args .owner ≡ slotAt (memory-at c) (ownerOf (c .args .pending))
 owner-at c = c .pre .1 .1
 
 -- so the owner's bitmap is one of theirs
-owner-is : (c : tie.Start) → IsBitmap (c .args .t6 .tam .words)
+owner-is : (c : tie.Start) → IsBitmap (c .args .owner .tam .words)
 owner-is c = rw (owner-at c) (shape-at c .tam (ownerOf (c .args .pending)))
 
 -- where the bitmaps are known to be valid
@@ -68,7 +68,7 @@ returns-2 c =
 
 commit-valid-requires : tie.Need-commit-valid-requires
 commit-valid-requires c κs =
-    let at = start (checked (c .before .before .before .before .before)) in (shape-at at .sam, owner-is at)
+    let at = start (checked (c .before .before .before .before .before .before)) in (shape-at at .sam, owner-is at)
 
 enum-known-pending-2 : tie.Need-enum-known-pending-2
 enum-known-pending-2 c = search needs
@@ -86,10 +86,10 @@ returns-3 c =
 
 returns-4 : tie.Need-returns-4
 returns-4 c =
-    let inside = c .before .before .before in
+    let inside = c .before .before .before .before in
     let at = inside .before .before .before in
     let entry = checked at in
-    checked-commit (memory-at (start entry)) (maps-at entry) _ _ _ (start entry .args .t6) _ (shape-at (start entry)) (at .pending .given .1)
+    checked-commit (memory-at (start entry)) (maps-at entry) _ _ _ (start entry .args .owner) _ (shape-at (start entry)) (at .pending .given .1)
     (left-true _ _ (inside .before .slot-in-range .ensures) (inside .if2 .left))
     (owner-at (start entry))
     (c .commit-valid .ensures)

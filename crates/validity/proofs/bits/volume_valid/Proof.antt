@@ -6,7 +6,7 @@ use borrow.Author.Needs.{needs}
 use Rattle.bitmap.specs.Sizes.{blocksInRange}
 use Rattle.bitmap.specs.Bits.{noBitsFrom}
 use Rattle.model.proofs.Laws.DiskParts.{inRange-high}
-use Rattle.touches.proofs.Laws.Answers.{taken-false, left-true}
+use Rattle.validity.proofs.Laws.Answers.{taken-false, left-true}
 use Rattle.validity.proofs.bits.volume_valid.Statement.{statement}
 use Rattle.validity.proofs.bits.volume_valid.Tie as tie
 

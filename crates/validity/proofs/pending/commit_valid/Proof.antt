@@ -2,7 +2,7 @@
 use native.Mathlib.Omega.{arith}
 use mathlib.Core.Path.{_≡_, refl}
 use borrow.Author.Needs.{needs}
-use Rattle.touches.proofs.Laws.Answers.{taken-false, left-true}
+use Rattle.validity.proofs.Laws.Answers.{taken-false, left-true}
 use Rattle.validity.specs.Pending.{changedWords}
 use Rattle.validity.proofs.Laws.Pending.{changed-most, commit-open, commit-none, commit-due, commit-rest}
 use Rattle.validity.proofs.pending.commit_valid.Statement.{statement}

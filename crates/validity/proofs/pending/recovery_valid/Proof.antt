@@ -13,7 +13,7 @@ use Rattle.model_types.specs.declared.memory.Memory.{Memory}
 use Rattle.model_types.specs.Memory.{bitmap, memoryOf, idleSlot, slotAt, isActive}
 use Rattle.model.specs.Valid.{sameWords}
 use Rattle.model_types.proofs.Laws.Shape.{ShapedSlots, slots-shaped, slots-read}
-use Rattle.touches.proofs.Laws.Answers.{taken-false, left-true}
+use Rattle.validity.proofs.Laws.Answers.{taken-false, left-true}
 use Rattle.validity.proofs.Laws.Pending.{recovery-active, recovery-differs, recovery-few, recovery-many, recovery-rest}
 use Rattle.validity.proofs.pending.recovery_valid.Statement.{statement}
 use Rattle.validity.proofs.pending.recovery_valid.Tie as tie
