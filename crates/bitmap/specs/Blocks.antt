@@ -26,6 +26,30 @@ isAvailable sam «com» b = not (bit sam b) && not (bit «com» b)
 unfoldable pub availableBlocks : ℕ → List ℕ → List ℕ → List ℕ
 availableBlocks m sam «com» = from (isAvailable sam «com») m 0
 
+-- Document 02, job 1: "being taken (0, 1), being released (1, 0), held (1, 1)", of SAM and COM
+
+-- a block is being allocated with SAM 0 and COM 1
+unfoldable pub isAllocating : List ℕ → List ℕ → ℕ → Bool
+isAllocating sam «com» b = not (bit sam b) && bit «com» b
+
+-- a block is being freed with SAM 1 and COM 0
+unfoldable pub isFreeing : List ℕ → List ℕ → ℕ → Bool
+isFreeing sam «com» b = bit sam b && not (bit «com» b)
+
+-- a block is held with SAM 1 and COM 1
+unfoldable pub isHeld : List ℕ → List ℕ → ℕ → Bool
+isHeld sam «com» b = bit sam b && bit «com» b
+
+-- those of a volume of m, lowest first
+unfoldable pub allocatingBlocks : ℕ → List ℕ → List ℕ → List ℕ
+allocatingBlocks m sam «com» = from (isAllocating sam «com») m 0
+
+unfoldable pub freeingBlocks : ℕ → List ℕ → List ℕ → List ℕ
+freeingBlocks m sam «com» = from (isFreeing sam «com») m 0
+
+unfoldable pub heldBlocks : ℕ → List ℕ → List ℕ → List ℕ
+heldBlocks m sam «com» = from (isHeld sam «com») m 0
+
 -- whether a list has a block
 unfoldable pub member : ℕ → List ℕ → Bool
 member b [] = false

@@ -1,4 +1,5 @@
--- Counts of ones and of available blocks.
+-- Counts of blocks.
 pub mod Count
+pub mod Tally
 pub mod Available
 pub mod Whole

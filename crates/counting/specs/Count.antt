@@ -1,11 +1,19 @@
--- Available blocks counted in words that a volume fills.
+-- Blocks counted: by their bits in two bitmaps, and the available ones in words that a volume fills.
 use Prim.Native.Nat.{ℕ, _+_, _*_, _≤_, _<_}
 use mathlib.Core.Path.{_≡_}
 use mathlib.Core.List.{List}
 use lib.ListN.{length}
-use Rattle.bitmap.specs.Sizes.{wordBits, bitmapWords}
+use Rattle.bitmap.specs.Sizes.{maxBlocks, wordBits, bitmapWords}
 use Rattle.bitmap.specs.Bits.{IsBitmap}
+use Rattle.bitmap.specs.Blocks.{allocatedBlocks, allocatingBlocks, freeingBlocks}
 use Rattle.available.specs.Available.{availableFrom}
+use Rattle.counting.specs.declared.Tally.{Tally}
+
+-- how many blocks of two whole bitmaps are allocated, being allocated and being freed
+pub record IsTally (sam «com» : List ℕ) (tally : Tally) : Type 0 where
+  pub allocated : tally .allocated ≡ length (allocatedBlocks maxBlocks sam)
+  pub allocating : tally .allocating ≡ length (allocatingBlocks maxBlocks sam «com»)
+  pub freeing : tally .freeing ≡ length (freeingBlocks maxBlocks sam «com»)
 
 -- how many available blocks there are from word k on
 abbrev pub countFrom : ℕ → List ℕ → List ℕ → ℕ → ℕ

@@ -1,25 +1,40 @@
-// Counts of a bitmap's bits and of a volume's available blocks, a word at a time.
+// Counts of a volume's blocks, a word at a time.
 ghost use mathlib.Core.Path.{_≡_};
 ghost use Prim.Native.Nat.{_+_, _/_, _≤_};
 ghost use lib.ListN.{length};
 ghost use Rattle.bitmap.specs.Sizes.{maxBlocks, wordBits};
 ghost use Rattle.bitmap.specs.Bits.{IsBitmap};
 ghost use Rattle.bitmap.specs.Blocks.{availableBlocks};
-ghost use Rattle.bitmap.proofs.Laws.Count.{onesOf};
-ghost use Rattle.counting.specs.Count.{countFrom, CanCount, IsCount};
+ghost use Rattle.counting.specs.Count.{IsTally, countFrom, CanCount, IsCount};
 use available::available::available_word;
 use bitmap::Bitmap;
 
-// The number of bits that are 1.
-pub fn count_ones(words: &[u32; 128]) -> u32
-    requires { ⌜ IsBitmap (now words) ⌝ }
-    ensures { λ r. ⌜ r ≡ onesOf (now (words .entry)) ⌝ }
+// Blocks counted by their bits in SAM and COM.
+pub struct Tally {
+    pub allocated: u32,
+    pub allocating: u32,
+    pub freeing: u32,
+}
+
+// Counts the blocks that are allocated, being allocated and being freed, in one pass over all words.
+pub fn count_blocks(sam: &[u32; 128], com: &[u32; 128]) -> Tally
+    requires { ⌜ IsBitmap (now sam) ⌝ }
+    requires { ⌜ IsBitmap (now «com») ⌝ }
+    ensures { λ r. ⌜ IsTally (now (sam .entry)) (now («com» .entry)) r ⌝ }
 {
-    let mut count = 0;
+    let mut allocated = 0;
+    let mut allocating = 0;
+    let mut freeing = 0;
     for k in 0..Bitmap::WORDS {
-        count += u32::count_ones(words[k]);
+        allocated += u32::count_ones(sam[k]);
+        allocating += u32::count_ones(!sam[k] & com[k]);
+        freeing += u32::count_ones(sam[k] & !com[k]);
     }
-    count
+    Tally {
+        allocated,
+        allocating,
+        freeing,
+    }
 }
 
 // The number of available blocks of word k, which the volume fills.

@@ -4,6 +4,7 @@ pub mod First
 pub mod Numbers
 pub mod Writes
 pub mod Accepted
+pub mod FourCounts
 pub mod Places
 pub mod StoreLists
 pub mod Entries

@@ -9,6 +9,7 @@ pub mod Valid
 pub mod Disk
 pub mod Causes
 pub mod Calls
+pub mod FourCounts
 pub mod Completion
 pub mod Outcome
 pub mod Line

@@ -30,10 +30,14 @@ pub enum StoresAnswer {
     Refused(Error),
 }
 
-// Status: the allocated and the free blocks, and the slots that aren't idle.
+// Status: the allocated blocks; of all blocks those that can be had, those on their way in and out, and those held; and the
+// slots that aren't idle.
 pub struct Counts {
     pub allocated: u32,
-    pub free: u32,
+    pub available: u32,
+    pub allocating: u32,
+    pub freeing: u32,
+    pub held: u32,
     pub active: u32,
 }
 

@@ -1,8 +1,8 @@
--- Document 01, "Bench readings", P1 to P12, as one table that computes.
+-- Document 01, "Bench readings", P1 to P12, as one table that computes; document 02's nursery as another.
 -- "m is 4, SAM word 0 is 1, seat 1 takes 1 block, seat 2 takes 2 (document 000, figure 3)."
 use Prim.Native.Nat.{ℕ, _-_}
 use mathlib.Core.Path.{_≡_, refl}
-use mathlib.Core.Bool.{true, false, xor}
+use mathlib.Core.Bool.{true, false, xor, _&&_}
 use mathlib.Core.List.{List, [], _∷_}
 use lib.ListN.{getD, take, replicate}
 use Rattle.bitmap.specs.declared.Bitmap.{Bitmap}
@@ -12,7 +12,7 @@ use Rattle.model_types.specs.declared.answer.Counts.{Counts}
 use Rattle.model.specs.Sizes.{logWords}
 use Rattle.model.specs.Completion.{afterStores}
 use Rattle.bitmap.specs.Bits.{isSet, bit, wordOf, wordsOf, bitmapOf, noBitsFrom}
-use Rattle.bitmap.specs.Blocks.{scan, from, allocatedBlocks, isAvailable, availableBlocks, member, allBelow}
+use Rattle.bitmap.specs.Blocks.{scan, from, allocatedBlocks, isAvailable, availableBlocks, isAllocating, allocatingBlocks, isFreeing, freeingBlocks, isHeld, heldBlocks, member, allBelow}
 use Rattle.bitmap.specs.Majority.{majority}
 use Rattle.model_types.specs.Answers.{done, granted, due, counted, doneNumber, grantNumber, storesNumber, storesValue}
 use Rattle.model.specs.Calls.Allocate.{allocateError, lowest, taking, allocateAnswer, allocateMemory, allocateList}
@@ -33,6 +33,7 @@ use Rattle.model_types.specs.Memory.{quietMemory, bitmap, slotAt}
 use Rattle.model.specs.Stores.{writes, changesFrom, logStores, checkpointWith, journalWith, checkpointStores, commitStores, Store}
 use Rattle.model.specs.Valid.{touched, sameWords, allSlots, slotValid, touches, touchesAgree, isQuiet, pendingValid, valid}
 use Rattle.model.proofs.Laws.Rows.{sameRows, rows-same}
+use Rattle.model.proofs.Laws.Writes.{and-first, and-second}
 
 -- a list of 64 places, as the bench program lends
 list : List ℕ
@@ -52,9 +53,9 @@ flat : List Store → List ℕ
 flat [] = []
 flat (store ∷ stores) = store .place ∷ store .value ∷ flat stores
 
--- allocated, free, active
+-- allocated, available, allocating, freeing, held, active
 pub figures : Counts → List ℕ
-figures found = found .allocated ∷ found .free ∷ found .active ∷ []
+figures found = found .allocated ∷ found .available ∷ found .allocating ∷ found .freeing ∷ found .held ∷ found .active ∷ []
 
 -- slot 1 opens and takes its block; slot 2 opens, takes its two, precommits and commits, to the fifth store
 pub readings : List (List ℕ)
@@ -100,19 +101,34 @@ expected =
     ∷ (1 ∷ 2 ∷ [])
     ∷ []
 
-computed : sameRows readings expected ≡ true
-unfolding sameRows expected list sam0 disk0 word0 flat readings xor isSet bit wordOf wordsOf bitmapOf noBitsFrom scan from allocatedBlocks isAvailable availableBlocks member allBelow majority done granted due counted allocateError lowest taking allocateAnswer allocateMemory allocateList commitError committing commitAnswer commitMemory deallocateError freeing deallocateAnswer deallocateMemory openError recoveryDue recoveryPending opened openAnswer openMemory precommitError precommitting precommitAnswer precommitMemory startError started startAnswer startMemory statusError allocated activeSlots counts statusAnswer storeError stillDue advanced nextStored storeAnswer storeMemory storeDisk memoryInvalid diskLengthWrong diskBlocksWrong diskBitmapWrong diskLogWrong diskMismatched isNothing nothingPending workPending slotOutOfRange slotActive slotInactive slotPrecommitted slotNotPrecommitted countOutOfRange listShort available tooFewAvailable blockOutOfRange blockFree blockFreeing committedSam entriesOf changedOf commitDue refreshed committed lengthIn entriesIn logEntries entriesValid logValid durable dueStores entriesAgree recoveryMatches diskMatches firstOr first unlessRefused touched storesDone storesDue oneMoreDone finished writes changesFrom logStores checkpointWith journalWith checkpointStores commitStores blocksInRange countInRange slotInRange sameWords allSlots slotValid touches touchesAgree isQuiet pendingValid valid
+-- Document 02, job 1: "A nursery saw 9 blocks free and was refused 6, since seven were spoken for." m is 16 and blocks 0 to 6 are
+-- allocated; slot 1 takes seven of the 9, and slot 2 frees block 3. The six counts, and what a count of 6, of 3 and of 2 answers
+pub nursery : List (List ℕ)
+nursery =
+    let open1 = startMemory (quietMemory 16 (bitmap (127 ∷ replicate (bitmapWords - 1) 0)) Nothing) 1 in
+    let taken1 = allocateMemory open1 1 7 list in
+    let asked = deallocateMemory (startMemory taken1 2) 2 3 in
+    figures (counts (quietMemory 16 (bitmap (127 ∷ replicate (bitmapWords - 1) 0)) Nothing))
+    ∷ figures (counts asked)
+    ∷ (grantNumber (allocateAnswer asked 2 6 list) ∷ grantNumber (allocateAnswer asked 2 3 list) ∷ grantNumber (allocateAnswer asked 2 2 list) ∷ [])
+    ∷ []
+
+pub told : List (List ℕ)
+told =
+    (7 ∷ 9 ∷ 0 ∷ 0 ∷ 7 ∷ 0 ∷ [])
+    ∷ (7 ∷ 2 ∷ 7 ∷ 1 ∷ 6 ∷ 2 ∷ [])
+    ∷ (17 ∷ 17 ∷ 0 ∷ [])
+    ∷ []
+
+computed : (sameRows readings expected && sameRows nursery told) ≡ true
+unfolding sameRows expected told list sam0 disk0 word0 flat figures readings nursery xor isSet bit wordOf wordsOf bitmapOf noBitsFrom scan from allocatedBlocks isAvailable availableBlocks isAllocating allocatingBlocks isFreeing freeingBlocks isHeld heldBlocks member allBelow majority done granted due counted allocateError lowest taking allocateAnswer allocateMemory allocateList commitError committing commitAnswer commitMemory deallocateError freeing deallocateAnswer deallocateMemory openError recoveryDue recoveryPending opened openAnswer openMemory precommitError precommitting precommitAnswer precommitMemory startError started startAnswer startMemory statusError allocated activeSlots counts statusAnswer storeError stillDue advanced nextStored storeAnswer storeMemory storeDisk memoryInvalid diskLengthWrong diskBlocksWrong diskBitmapWrong diskLogWrong diskMismatched isNothing nothingPending workPending slotOutOfRange slotActive slotInactive slotPrecommitted slotNotPrecommitted countOutOfRange listShort available tooFewAvailable blockOutOfRange blockFree blockFreeing committedSam entriesOf changedOf commitDue refreshed committed lengthIn entriesIn logEntries entriesValid logValid durable dueStores entriesAgree recoveryMatches diskMatches firstOr first unlessRefused touched storesDone storesDue oneMoreDone finished writes changesFrom logStores checkpointWith journalWith checkpointStores commitStores blocksInRange countInRange slotInRange sameWords allSlots slotValid touches touchesAgree isQuiet pendingValid valid
 computed = refl
 
 pub table : readings ≡ expected
-table = rows-same readings expected computed
+table = rows-same readings expected (and-first (sameRows readings expected) (sameRows nursery told) computed)
 
--- ---- two rules that no other reading looks at
-
--- status: "allocated is the number of ones in SAM, free is m less allocated, and the seats not idle are counted"
-pub free-figure : figures (counts (started (quietMemory 4 sam0 Nothing) 1)) ≡ 1 ∷ 3 ∷ 1 ∷ []
-unfolding figures counts allocated activeSlots allocatedBlocks from scan bit isSet sam0 started
-free-figure = refl
+pub four-counts : nursery ≡ told
+four-counts = rows-same nursery told (and-second (sameRows readings expected) (sameRows nursery told) computed)
 
 -- cause 16, "list shorter than the count": a list as long as the count is not
 pub short-list : (listShort (9 ∷ []) 2 ≡ true) × (listShort (9 ∷ 9 ∷ []) 2 ≡ false)

@@ -1,11 +1,12 @@
-// Status: how many blocks are allocated and free, and how many slots aren't idle. The memory stays.
+// Status: how many blocks are allocated, how many can be had, are on their way in and out, and are held, and how many slots
+// aren't idle. The memory stays.
 ghost use mathlib.Core.Path.{_≡_};
 ghost use mathlib.Core.Bool.{true};
-ghost use Prim.Native.Nat.{_≤_};
 ghost use Rattle.model.specs.Calls.Status.{activeSlots, statusAnswer};
-ghost use Rattle.status.specs.Status.{statusOf};
+ghost use Rattle.status.specs.Status.{Within, statusOf};
 use bitmap::Bitmap;
-use counting::count_ones;
+use counting::Tally;
+use counting::count_blocks;
 use model_types::answer::Counts;
 use model_types::answer::Measured;
 use model_types::answer::StatusAnswer;
@@ -29,22 +30,29 @@ fn count_active(slots: [Slot; 8]) -> u32
     count
 }
 
-// The answer: cause 1, or the counts.
-fn counted(sound: bool, blocks: u32, allocated: u32, active: u32) -> StatusAnswer
-    requires { ⌜ (sound ≡ true → allocated ≤ blocks) ⌝ }
-    ensures { λ r. ⌜ r ≡ statusOf sound blocks allocated active ⌝ }
+// The answer: cause 1, or the counts. Of the allocated blocks those that aren't being freed are held; of all blocks those that
+// are neither allocated nor being allocated are available.
+fn counted(sound: bool, blocks: u32, tally: Tally, active: u32) -> StatusAnswer
+    requires { ⌜ (sound ≡ true → Within blocks tally) ⌝ }
+    ensures { λ r. ⌜ r ≡ statusOf sound blocks tally active ⌝ }
 {
     if !sound {
         return StatusAnswer::Refused(Error::MemoryInvalid);
     }
+    let allocated = tally.allocated;
+    let allocating = tally.allocating;
+    let freeing = tally.freeing;
     StatusAnswer::Counted(Counts {
         allocated,
-        free: blocks - allocated,
+        available: blocks - allocated - allocating,
+        allocating,
+        freeing,
+        held: allocated - freeing,
         active,
     })
 }
 
-// Counts the ones of SAM, the other blocks, and the slots that aren't idle.
+// Counts the blocks by their bits in SAM and COM, and the slots that aren't idle.
 pub fn status(memory: Memory) -> Measured
     ensures answers { λ r. ⌜ r .answer ≡ statusAnswer memory ⌝ }
     ensures leaves { λ r. ⌜ r .memory ≡ memory ⌝ }
@@ -56,8 +64,8 @@ pub fn status(memory: Memory) -> Measured
     let pending = memory.pending;
     let owner = slots[pending.owner()];
     let sound = valid(blocks, &sam.words, &com.words, slots, pending, owner);
-    let allocated = count_ones(&sam.words);
+    let tally = count_blocks(&sam.words, &com.words);
     let active = count_active(slots);
-    let answer = counted(sound, blocks, allocated, active);
+    let answer = counted(sound, blocks, tally, active);
     Measured { answer, memory }
 }

@@ -1,26 +1,16 @@
--- A volume has as many allocated blocks as its bitmap has ones.
-use Prim.Native.Nat.{ℕ, zero, suc, _+_, _-_, _*_, _/_, _^_, _≤_, _<_}
+-- How many blocks a scan finds, and the blocks of a volume by their bits in SAM and COM.
+use Prim.Native.Nat.{ℕ, zero, suc, _+_, _-_, _≤_}
 use native.Mathlib.Nat.{zero-add, add-zero, add-suc, suc-add, sub-zero, le-refl}
 use native.Mathlib.Omega.{arith}
-use mathlib.Core.Path.{_≡_, refl, sym, ap, ap₂, _∙_}
-use mathlib.Core.Bool.{Bool, true, false, cond}
+use mathlib.Core.Path.{_≡_, refl, ap, _∙_}
+use mathlib.Core.Bool.{Bool, true, false, not, cond, _&&_}
 use mathlib.Core.List.{List, [], _∷_}
-use lib.ListN.{length, getD}
-use lib.Arith.{lt-one}
-use lib.Count.{ones, ones-step}
-use Rattle.bitmap.specs.Sizes.{maxBlocks, wordBits}
-use Rattle.bitmap.specs.Bits.{isSet, bit, noBitsFrom, IsBitmap}
-use Rattle.bitmap.specs.Blocks.{scan, from, allocatedBlocks}
-use Rattle.bitmap.proofs.Laws.Word.{isSet-half, half-and-low}
-use Rattle.bitmap.proofs.Laws.Bits.{bit-word, bit-next, noBits-bit}
+use lib.ListN.{length}
+use Rattle.bitmap.specs.Bits.{bit}
+use Rattle.bitmap.specs.Blocks.{scan, from, allocatedBlocks, isAvailable, availableBlocks, isAllocating, allocatingBlocks, isFreeing, freeingBlocks, isHeld, heldBlocks}
 use Rattle.bitmap.proofs.Laws.Blocks.{from-skip, from-end}
 
--- the ones of all words
-unfoldable pub onesOf : List ℕ → ℕ
-onesOf [] = 0
-onesOf (word ∷ words) = ones word + onesOf words
-
--- ---- how many blocks a scan finds
+-- ---- a scan in parts
 
 -- none of no blocks
 count-zero : (test : ℕ → Bool) (p : ℕ) → length (scan test p 0) ≡ 0
@@ -44,61 +34,53 @@ count-add test p (suc n) k =
     rw (suc-add n k, add-suc p n, ← suc-add p n)
     (omega (arith, count-suc test p (n + k), count-suc test p n, count-add test (suc p) n k))
 
--- two scans find as many where their tests agree block by block
-count-same : (test other : ℕ → Bool) (p q n : ℕ) → ((i : ℕ) → i < n → test (p + i) ≡ other (q + i))
-    → length (scan test p n) ≡ length (scan other q n)
-unfolding scan
-count-same test other p q zero same = refl
-count-same test other p q (suc n) same =
-    count-suc test p n
-    ∙ ap₂ (λ (t : Bool) (x : ℕ). cond t 1 0 + x)
-    (simp add-zero at (same 0 (omega arith)))
-    (count-same test other (suc p) (suc q) n (λ i l. rw (suc-add p i, suc-add q i, ← add-suc p i, ← add-suc q i) (same (suc i) (omega arith))))
-    ∙ sym (count-suc other q n)
+-- a test that holds everywhere finds all
+count-all : (p n : ℕ) → length (scan (λ b. true) p n) ≡ n
+count-all p zero = count-zero (λ b. true) p
+count-all p (suc n) = omega (arith, count-suc (λ b. true) p n, count-all (suc p) n)
 
--- ---- how many bits are set
-
--- a word of n bits has its ones there
-word-ones : (w n : ℕ) → w < 2 ^ n → length (scan (isSet w) 0 n) ≡ ones w
-unfolding scan ones
-word-ones w zero h = ap ones (sym (lt-one h))
-word-ones w (suc n) h =
-    let low = half-and-low w in
-    let rest : length (scan (isSet w) 1 n) ≡ length (scan (isSet (w / 2)) 0 n) =
-    count-same (isSet w) (isSet (w / 2)) 1 0 n (λ i l. rw (suc-add 0 i, zero-add i) (isSet-half w i)) in
-    omega (arith, count-suc (isSet w) 0 n, word-ones (w / 2) n (omega arith), ones-step w)
-
--- of a word's 32 blocks
-first-ones : (w : ℕ) (ws : List ℕ) → w < 2 ^ wordBits → length (scan (bit (w ∷ ws)) 0 32) ≡ ones w
-first-ones w ws h = count-same (bit (w ∷ ws)) (isSet w) 0 0 32 (λ i l. bit-word (w ∷ ws) 0 i l ∙ ap (isSet w) (sym (zero-add i))) ∙ word-ones w 32 h
-
--- of the blocks of the words after it
-rest-count : (w : ℕ) (ws : List ℕ) (n : ℕ) → length (scan (bit (w ∷ ws)) 32 n) ≡ length (scan (bit ws) 0 n)
-rest-count w ws n = count-same (bit (w ∷ ws)) (bit ws) 32 0 n (λ i l. rw (zero-add i) (bit-next w ws i))
-
--- of all blocks
-words-ones : (words : List ℕ) → ((k : ℕ) → getD words k 0 < 2 ^ wordBits) → length (scan (bit words) 0 (32 * length words)) ≡ onesOf words
-unfolding onesOf
-words-ones [] h = count-zero (bit []) 0
-words-ones (w ∷ ws) h =
-    let e : 32 * suc (length ws) ≡ 32 + 32 * length ws = omega arith in
-    ap (λ (n : ℕ). length (scan (bit (w ∷ ws)) 0 n)) e
-    ∙ count-add (bit (w ∷ ws)) 0 32 (32 * length ws)
-    ∙ ap₂ (λ (x y : ℕ). x + y) (first-ones w ws (h 0)) (rest-count w ws (32 * length ws) ∙ words-ones ws (λ k. h (suc k)))
-
--- a volume has as many allocated blocks as its bitmap has ones
-pub allocated-ones : (m : ℕ) (words : List ℕ) → m ≤ maxBlocks → IsBitmap words → noBitsFrom m words ≡ true
-    → length (allocatedBlocks m words) ≡ onesOf words
-unfolding allocatedBlocks from
-allocated-ones m words h is none =
-    let past : from (bit words) maxBlocks m ≡ [] =
-    from-skip (bit words) maxBlocks m maxBlocks h (λ b l u. noBits-bit m words b none l) ∙ from-end (bit words) maxBlocks maxBlocks (le-refl maxBlocks) in
-    let all : m + (maxBlocks - m) ≡ 32 * length words = omega (arith, is .size) in
-    rw (sub-zero m)
-    (omega (
+-- those at which the test holds are those at which another holds too, and those at which it doesn't
+count-split : (test side : ℕ → Bool) (p n : ℕ)
+    → length (scan test p n) ≡ length (scan (λ b. test b && not (side b)) p n) + length (scan (λ b. test b && side b) p n)
+count-split test side p zero = omega (arith, count-zero test p, count-zero (λ b. test b && not (side b)) p, count-zero (λ b. test b && side b) p)
+count-split test side p (suc n) =
+    omega (
       arith,
-      ap length past,
-      rw (zero-add m) at (count-add (bit words) 0 m (maxBlocks - m)),
-      ap (λ (n : ℕ). length (scan (bit words) 0 n)) all,
-      words-ones words (is .small),
-    ))
+      count-suc test p n,
+      count-suc (λ b. test b && not (side b)) p n,
+      count-suc (λ b. test b && side b) p n,
+      count-split test side (suc p) n,
+      go (test p) (side p),
+    )
+  where
+    go : (t s : Bool) → cond t 1 0 ≡ cond (t && not s) 1 0 + cond (t && s) 1 0
+    go true true = refl
+    go true false = refl
+    go false s = refl
+
+-- of a test that holds nowhere from m on, a larger volume has no more
+pub count-past : (test : ℕ → Bool) (m k : ℕ) → m ≤ k → ((b : ℕ) → m ≤ b → test b ≡ false) → length (from test k 0) ≡ length (from test m 0)
+unfolding from
+count-past test m k h none =
+    let past : from test k m ≡ [] = from-skip test k m k h (λ b l u. none b l) ∙ from-end test k k (le-refl k) in
+    let all : m + (k - m) ≡ k = omega arith in
+    rw (sub-zero m, sub-zero k)
+    (omega (arith, ap length past, rw (zero-add m) at (count-add test 0 m (k - m)), ap (λ (n : ℕ). length (scan test 0 n)) all))
+
+-- ---- the blocks of a volume by their two bits
+
+module _ (m : ℕ) (sam «com» : List ℕ) where
+  -- the allocated blocks are those being freed and those held
+  pub allocated-parts : length (allocatedBlocks m sam) ≡ length (freeingBlocks m sam «com») + length (heldBlocks m sam «com»)
+  unfolding allocatedBlocks freeingBlocks isFreeing heldBlocks isHeld from
+  allocated-parts = count-split (bit sam) (bit «com») 0 (m - 0)
+
+  -- all others are available or being allocated
+  unallocated-parts : length (scan (λ b. not (bit sam b)) 0 m) ≡ length (availableBlocks m sam «com») + length (allocatingBlocks m sam «com»)
+  unfolding availableBlocks isAvailable allocatingBlocks isAllocating from
+  unallocated-parts = rw (sub-zero m) (count-split (λ b. not (bit sam b)) (bit «com») 0 m)
+
+  -- so the four kinds are all blocks
+  pub four-kinds : length (availableBlocks m sam «com») + length (allocatingBlocks m sam «com») + length (freeingBlocks m sam «com») + length (heldBlocks m sam «com») ≡ m
+  unfolding allocatedBlocks from
+  four-kinds = omega (arith, unallocated-parts, rw (sub-zero m) at allocated-parts, count-split (λ b. true) (bit sam) 0 m, count-all 0 m)

@@ -28,6 +28,15 @@ module _ (holds : Bool) (error : Error) (more : List Cause) where
       go true q = (cc, cc)
       go false q = (refl, q)
 
+  -- where the first has another error, it is that of a later cause
+  pub other-passed : (other : Error) → (error ≡ other → ⊥) → first (holds ⇒ error ∷ more) ≡ some other → first more ≡ some other
+  unfolding first firstOr
+  other-passed other differs e = go holds e
+    where
+      go : (t : Bool) → firstOr t error (first more) ≡ some other → first more ≡ some other
+      go true q = absurd (differs cc)
+      go false q = q
+
 -- with all tested, no cause holds
 pub no-cause : first [] ≡ none
 unfolding first

@@ -1,18 +1,20 @@
 -- Status: slots counted one after the other, and what the counts come to.
-use Prim.Native.Nat.{ℕ, _+_, _≤_, _<_}
+use Prim.Native.Nat.{ℕ, _+_, _-_, _≤_, _<_}
 use native.Mathlib.Numerals.{add-one}
 use native.Mathlib.Omega.{arith}
 use mathlib.Core.Path.{_≡_, refl, sym, ap, _∙_}
-use mathlib.Core.Bool.{Bool, true, false, not, cond}
+use mathlib.Core.Bool.{Bool, true, false, not, cond, and-false}
 use mathlib.Core.Option.{none}
 use mathlib.Core.List.{List}
 use lib.ListN.{length, getD, drop, drop-of-length-le}
 use lib.Seq.{drop-cons}
 use Rattle.bitmap.specs.Bits.{bit}
-use Rattle.bitmap.specs.Blocks.{allocatedBlocks}
-use Rattle.bitmap.proofs.Laws.Blocks.{from-length}
-use Rattle.bitmap.proofs.Laws.Count.{onesOf, allocated-ones}
-use Rattle.model_types.specs.declared.error.Error.the-variants.{MemoryInvalid}
+use Rattle.bitmap.specs.Sizes.{maxBlocks}
+use Rattle.bitmap.specs.Blocks.{allocatedBlocks, isAllocating, allocatingBlocks, isFreeing, freeingBlocks}
+use Rattle.bitmap.proofs.Laws.Bits.{noBits-bit}
+use Rattle.bitmap.proofs.Laws.Count.{count-past}
+use Rattle.counting.specs.declared.Tally.{Tally}
+use Rattle.counting.specs.Count.{IsTally}
 use Rattle.model_types.specs.declared.memory.Slot.{Slot}
 use Rattle.model_types.specs.declared.memory.Memory.{Memory}
 use Rattle.model.specs.First.{first, firstOr}
@@ -21,9 +23,9 @@ use Rattle.model_types.specs.Memory.{isActive}
 use Rattle.model.specs.Valid.{valid}
 use Rattle.model.specs.Causes.{memoryInvalid}
 use Rattle.model.specs.Calls.Status.{statusError, allocated, activeSlots, counts, statusAnswer}
-use Rattle.model_types.proofs.Laws.Shape.{Shaped}
 use Rattle.model.proofs.Laws.Valid.{ValidParts, valid-parts}
-use Rattle.status.specs.Status.{statusOf}
+use Rattle.model.proofs.Laws.FourCounts.{status-answers-counts, four-add-up, allocated-is-freeing-and-held}
+use Rattle.status.specs.Status.{Within, statusOf}
 
 module _ (slots : List Slot) (s : ℕ) (d : Slot) (count : ℕ) where
   -- the active slots from s on: the one there, and those behind it
@@ -47,27 +49,67 @@ all-counted slots s count l so = omega (arith, so, ap activeSlots (drop-of-lengt
 
 -- ---- the answer
 
-module _ (memory : Memory) where
-  -- the ones of SAM are the allocated blocks
-  ones-allocated : Shaped memory → ValidParts memory → onesOf (memory .sam .words) ≡ length (allocated memory)
-  unfolding allocated
-  ones-allocated shape parts = sym (allocated-ones (memory .blocks) (memory .sam .words) (parts .few-blocks) (shape .sam) (parts .sam-below))
+module _ (memory : Memory) (tally : Tally) (is : IsTally (memory .sam .words) (memory .com .words) tally) where
+  -- in a valid memory the blocks of whole bitmaps are those below m, since no bitmap has bits from m on
+  module _ (parts : ValidParts memory) where
+    sam-past : (b : ℕ) → memory .blocks ≤ b → bit (memory .sam .words) b ≡ false
+    sam-past b = noBits-bit (memory .blocks) (memory .sam .words) b (parts .sam-below)
 
-  -- at most as many as there are
-  allocated-few : length (allocated memory) ≤ memory .blocks
-  unfolding allocated allocatedBlocks
-  allocated-few = omega (arith, from-length (bit (memory .sam .words)) (memory .blocks) 0)
+    com-past : (b : ℕ) → memory .blocks ≤ b → bit (memory .com .words) b ≡ false
+    com-past b = noBits-bit (memory .blocks) (memory .com .words) b (parts .com-below)
 
-  -- in a valid memory there are at most as many ones
-  pub ones-few : Shaped memory → valid memory ≡ true → onesOf (memory .sam .words) ≤ memory .blocks
-  ones-few shape e = omega (arith, ones-allocated shape (valid-parts memory e), allocated-few)
+    allocated-is : tally .allocated ≡ counts memory .allocated
+    unfolding counts allocated allocatedBlocks
+    allocated-is = is .allocated ∙ count-past (bit (memory .sam .words)) (memory .blocks) maxBlocks (parts .few-blocks) sam-past
 
-  pub status-is : {sound : Bool} {ones active : ℕ} → Shaped memory → sound ≡ valid memory → ones ≡ onesOf (memory .sam .words) → active ≡ activeSlots (memory .slots)
-      → statusOf sound (memory .blocks) ones active ≡ statusAnswer memory
-  unfolding statusAnswer statusError memoryInvalid first firstOr counted counts
-  status-is {sound} {ones} {active} shape v o a = rw (v, o, a) (go (valid memory) refl)
+    allocating-is : tally .allocating ≡ counts memory .allocating
+    unfolding counts allocatingBlocks isAllocating
+    allocating-is =
+        is .allocating
+        ∙ count-past (isAllocating (memory .sam .words) (memory .com .words)) (memory .blocks) maxBlocks (parts .few-blocks)
+        (λ b h. rw (com-past b h) (and-false (not (bit (memory .sam .words) b))))
+
+    freeing-is : tally .freeing ≡ counts memory .freeing
+    unfolding counts freeingBlocks isFreeing
+    freeing-is =
+        is .freeing
+        ∙ count-past (isFreeing (memory .sam .words) (memory .com .words)) (memory .blocks) maxBlocks (parts .few-blocks)
+        (λ b h. rw (sam-past b h))
+
+  module _ (e : valid memory ≡ true) where
+    -- so the counts fit the volume
+    pub tally-within : Within (memory .blocks) tally
+    tally-within =
+        let parts = valid-parts memory e in
+        let allocated = allocated-is-freeing-and-held memory e in
+        record {
+          few = parts .few-blocks;
+          volume = omega (arith, allocated-is parts, allocating-is parts, four-add-up memory e, allocated);
+          freed = omega (arith, allocated-is parts, freeing-is parts, allocated);
+        }
+
+    -- what is left of the volume is available, and of the allocated blocks held
+    available-is : memory .blocks - tally .allocated - tally .allocating ≡ counts memory .available
+    available-is =
+        let parts = valid-parts memory e in
+        omega (arith, allocated-is parts, allocating-is parts, four-add-up memory e, allocated-is-freeing-and-held memory e)
+
+    held-is : tally .allocated - tally .freeing ≡ counts memory .held
+    held-is =
+        let parts = valid-parts memory e in
+        omega (arith, allocated-is parts, freeing-is parts, allocated-is-freeing-and-held memory e)
+
+    counted-is : statusOf true (memory .blocks) tally (activeSlots (memory .slots)) ≡ statusAnswer memory
+    unfolding counts
+    counted-is =
+        let parts = valid-parts memory e in
+        rw (available-is, held-is, allocated-is parts, allocating-is parts, freeing-is parts) (sym (status-answers-counts memory e))
+
+  pub status-is : {sound : Bool} {active : ℕ} → sound ≡ valid memory → active ≡ activeSlots (memory .slots)
+      → statusOf sound (memory .blocks) tally active ≡ statusAnswer memory
+  unfolding statusAnswer statusError memoryInvalid first firstOr counted
+  status-is {sound} {active} v a = rw (v, a) (go (valid memory) refl)
     where
-      go : (t : Bool) → valid memory ≡ t
-          → statusOf t (memory .blocks) (onesOf (memory .sam .words)) (activeSlots (memory .slots)) ≡ counted (firstOr (not t) MemoryInvalid none) (counts memory)
-      go false e = refl
-      go true e = rw (ones-allocated shape (valid-parts memory e))
+      go : (t : Bool) → valid memory ≡ t → statusOf t (memory .blocks) tally (activeSlots (memory .slots)) ≡ statusAnswer memory
+      go false e = rw e
+      go true e = counted-is e

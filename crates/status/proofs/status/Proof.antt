@@ -1,9 +1,8 @@
--- The memory tested, the ones of SAM and the active slots counted.
+-- The memory tested, blocks and active slots counted.
 use mathlib.Core.Path.{refl, sym, _∙_}
-use native.Mathlib.Omega.{arith}
 use Rattle.model_types.proofs.Laws.Shape.{Shaped, shaped}
 use Rattle.verdicts.proofs.Laws.Ready.{owner-read}
-use Rattle.status.proofs.Laws.Status.{ones-few, status-is}
+use Rattle.status.proofs.Laws.Status.{tally-within, status-is}
 use borrow.Author.Needs.{needs}
 use Rattle.status.proofs.status.Statement.{statement}
 use Rattle.status.proofs.status.Tie as tie
@@ -26,10 +25,9 @@ valid-requires c κs =
     let shape = shape-at b in
     (shape .sam, (shape .com, owner-read (b .args .memory) _ shape (c .before .before .before .before .before .owner .ensures)))
 
--- whichever bitmap is counted
-count-ones-requires : tie.Need-count-ones-requires
-count-ones-requires c κs =
-    let shape = shape-at (c .before .before .before .before .before .before .before .before .before .before .before .before) in
+count-blocks-requires : tie.Need-count-blocks-requires
+count-blocks-requires c κs =
+    let shape = shape-at (c .before .before .before .before .before .before .before .before .before .before .before .before .before .before) in
     search (shape .sam, shape .com)
 
 count-active-requires : tie.Need-count-active-requires
@@ -37,15 +35,15 @@ count-active-requires c κs = search needs
 
 counted-requires : tie.Need-counted-requires
 counted-requires c κs e =
-    let tested = c .before .before .before .before in
+    let tested = c .before .before .before .before .before .before in
     let b = tested .before .before .before .before .before .before .before .before .before .before in
-    omega (arith, c .before .count-ones .ensures, ones-few (b .args .memory) (shape-at b) (sym (tested .valid .ensures) ∙ e))
+    tally-within (b .args .memory) _ (c .before .count-blocks .ensures) (sym (tested .valid .ensures) ∙ e)
 
 returns : tie.Need-returns
 returns c =
-    let tested = c .before .before .before .before .before in
+    let tested = c .before .before .before .before .before .before .before in
     let b = tested .before .before .before .before .before .before .before .before .before .before in
-    (c .counted .ensures ∙ status-is (b .args .memory) (shape-at b) (tested .valid .ensures) (c .before .before .count-ones .ensures) (c .before .count-active .ensures), refl)
+    (c .counted .ensures ∙ status-is (b .args .memory) _ (c .before .before .count-blocks .ensures) (tested .valid .ensures) (c .before .count-active .ensures), refl)
 
 pub status-spec : {M : Type 1} → statement M
 status-spec =
@@ -55,7 +53,7 @@ status-spec =
     mul-owner
     array-copy-out-owner
     valid-requires
-    count-ones-requires
+    count-blocks-requires
     count-active-requires
     counted-requires
     returns)
