@@ -1,6 +1,6 @@
 # make bench [FILE=history]   proves and builds the bench program and runs it on document 01's example, or on a file of bench lines
 # make test                   everything: the second allocator's tests, the stored tests it makes, then the prover's gate
-# make soak [SEEDS=n]         n more random histories through both allocators; the first difference is shown
+# make soak [SEEDS=n]         n more seeds of random histories and damage through both allocators; the first difference is shown
 # make speed                  both timed on the same histories and on each kind of call; fails if a goal of docs/SPEED.md is missed
 # make clean                  removes what these made
 
@@ -10,13 +10,16 @@ JOBS ?= 6
 SEEDS ?= 20
 REFERENCE := reference/target/release/reference
 
-.PHONY: bench program reference reference-test stored-tests test soak speed clean
+.PHONY: bench program inspect reference reference-test stored-tests test soak speed clean
 
 bench: program
 	@target/bin/bench < $(FILE)
 
 program:
 	@bench/prove bench
+
+inspect:
+	@bench/prove inspect
 
 reference:
 	@cargo build --release --quiet --offline --manifest-path reference/Cargo.toml
@@ -31,7 +34,7 @@ stored-tests: reference
 test: reference-test stored-tests
 	RT_JOBS=$(JOBS) rt ci
 
-soak: program reference
+soak: program inspect reference
 	@bench/soak $(SEEDS)
 
 speed: program reference

@@ -58,10 +58,6 @@ impl Bitmap {
         self.words[word] &= !bit;
     }
 
-    pub fn count_ones(&self) -> u32 {
-        self.words.iter().map(|word| word.count_ones()).sum()
-    }
-
     /// The bitmap whose words are made from the words of three others.
     pub fn combine(
         first: &Bitmap,

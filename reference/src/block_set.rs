@@ -22,6 +22,10 @@ impl BlockSet {
         self.flags[block as usize]
     }
 
+    pub fn count(&self) -> u32 {
+        self.flags.iter().map(|flag| u32::from(*flag)).sum()
+    }
+
     pub fn clear(&mut self) {
         self.flags.fill(false);
     }

@@ -10,6 +10,7 @@ mod log_damage;
 mod malformed;
 mod memory_damage;
 mod mending;
+mod other_memory;
 mod pending_damage;
 mod repair;
 mod scenes;
@@ -41,6 +42,10 @@ const MOST_STRAYS: u32 = 3;
 const SHORT_LIST_IN: u32 = 4;
 const SHOW_AFTER_STEP_IN: u32 = 6;
 const SHOW_DAMAGE_IN: u32 = 5;
+const STATUS_AFTER_CALL_IN: u32 = 6;
+const STATUS_OF_DAMAGE_IN: u32 = 5;
+/// One in this many calls of status is a test line, the others are bench lines.
+const STATUS_LINE_IN: u32 = 4;
 
 /// An endless sequence.
 pub struct Damage {
@@ -103,6 +108,7 @@ impl Damage {
                 self.call(Operation::Store, 0, 0);
             }
             self.show_one_in(SHOW_AFTER_STEP_IN);
+            self.status_one_in(STATUS_AFTER_CALL_IN);
         }
     }
 
@@ -117,10 +123,12 @@ impl Damage {
             return;
         };
         self.show_one_in(SHOW_DAMAGE_IN);
+        self.status_one_in(STATUS_OF_DAMAGE_IN);
         if self.call(aim.operation, slot, number) == aim.error {
             self.aims.swap_remove(index);
         }
         self.show_mostly();
+        self.status_one_in(STATUS_AFTER_CALL_IN);
         if self.random.one_in(STRAYS_IN) {
             self.put_strays();
         }
@@ -133,6 +141,7 @@ impl Damage {
             let (slot, number) = self.any_arguments(operation);
             self.call(operation, slot, number);
             self.show_one_in(2);
+            self.status_one_in(STATUS_AFTER_CALL_IN);
         }
     }
 
@@ -148,12 +157,24 @@ impl Damage {
         }
     }
 
+    fn status_one_in(&mut self, times: u32) {
+        if self.random.one_in(times) {
+            self.alter(TestLine::Status);
+        }
+    }
+
     fn call(&mut self, operation: Operation, slot: u32, number: u32) -> Option<Error> {
         self.put_line(&Line { operation, slot, number })
     }
 
+    /// Adds the bench line, or now and then the test line of the same call.
     fn put_line(&mut self, line: &Line) -> Option<Error> {
-        let bytes = history::text::bytes(&mut self.random, line);
+        let is_status = line.operation == Operation::Status;
+        let bytes = if is_status && self.random.one_in(STATUS_LINE_IN) {
+            text::bytes(&mut self.random, &TestLine::Status)
+        } else {
+            history::text::bytes(&mut self.random, line)
+        };
         self.put(bytes)
     }
 
@@ -164,7 +185,7 @@ impl Damage {
 
     /// Adds a line to the plan and runs it. It gives the error if the line is refused.
     fn put(&mut self, bytes: Vec<u8>) -> Option<Error> {
-        let answer = self.state.run(&bytes);
+        let answer = self.state.run(&bytes, &mut String::new());
         self.planned.push_back(bytes);
         if is_sound(&self.state) {
             self.sound = Some(self.state.clone());

@@ -4,6 +4,7 @@
 mod choice;
 pub(crate) mod malformed;
 pub(crate) mod text;
+mod with_status;
 
 use crate::bench::Bench;
 use crate::bitmap::Bitmap;
@@ -11,6 +12,8 @@ use crate::error::Error;
 use crate::line::{Line, Operation};
 use crate::memory::Memory;
 use crate::random::Random;
+
+pub use with_status::with_status;
 
 const MALFORMED_IN: u32 = 12;
 

@@ -1,6 +1,6 @@
 //! The inspector: what its calls are lent, and what each bench line and test line does to it.
 
-use crate::calls::{open, MAX_COUNT};
+use crate::calls::{open, status, MAX_COUNT};
 use crate::codes::{pending_of, slot_state_of};
 use crate::disk::DISK_WORDS;
 use crate::error::Error;
@@ -33,14 +33,15 @@ impl Inspector {
         }
     }
 
-    /// Runs a line, given without its byte 10, and gives the value to be printed.
-    pub fn run(&mut self, line: &[u8]) -> Result<u32, Error> {
+    /// Runs a line, given without its byte 10, and gives the value to be printed. What the line
+    /// prints behind its answer line is added to `more`.
+    pub fn run(&mut self, line: &[u8], more: &mut String) -> Result<u32, Error> {
         if let Some(line) = line::parse(line) {
             return self.call(&line);
         }
         let line = test_line::parse(line).ok_or(Error::MalformedLine)?;
         self.alter(&line).ok_or(Error::MalformedLine)?;
-        Ok(0)
+        self.report(&line, more)
     }
 
     /// Makes the call that a bench line in form asks for. The memory that an open gives takes the
@@ -75,9 +76,25 @@ impl Inspector {
             }
             TestLine::Pending { codes } => memory.pending = pending_of(codes)?,
             TestLine::List { places } => self.places = at_most(places, LIST_PLACES)?,
-            TestLine::Show => {}
+            TestLine::Show | TestLine::Status => {}
         }
         Some(())
+    }
+
+    /// Prints what the test line asks to be told, if anything, and gives its value.
+    fn report(&self, line: &TestLine, more: &mut String) -> Result<u32, Error> {
+        match line {
+            TestLine::Show => {
+                more.push_str(&self.to_string());
+                Ok(0)
+            }
+            TestLine::Status => {
+                let status = status(&self.memory)?;
+                more.push_str(&status.to_string());
+                Ok(status.allocated)
+            }
+            _ => Ok(0),
+        }
     }
 }
 

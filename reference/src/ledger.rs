@@ -69,6 +69,12 @@ impl Ledger {
         &self.allocated
     }
 
+    /// The number of blocks that the slots took, and that they freed.
+    pub fn touched(&self) -> (u32, u32) {
+        let count = |sets: &[BlockSet]| sets.iter().map(BlockSet::count).sum();
+        (count(&self.taken), count(&self.freed))
+    }
+
     /// Whether no block has two holders. Holders are A and each slot that took the block.
     pub fn has_single_holders(&self) -> bool {
         let mut held = self.allocated.clone();

@@ -13,6 +13,7 @@ mod log;
 mod memory;
 mod random;
 mod show;
+mod status_line;
 mod store_list;
 mod validity;
 

@@ -4,8 +4,6 @@ use crate::bench::Bench;
 use crate::error::Error;
 use crate::inspector::Inspector;
 use crate::line_reader::LineReader;
-use crate::test_line::{self, TestLine};
-use std::fmt::Write as _;
 use std::io::{self, BufWriter, Read, Write};
 
 /// Lines past these aren't read.
@@ -18,18 +16,11 @@ pub fn run(input: impl Read, output: impl Write) -> io::Result<()> {
     answer_lines(input, output, |line, _| bench.run(line))
 }
 
-/// Reads bench lines and test lines and writes an answer line for each, and the state after that of
-/// a `show`.
+/// Reads bench lines and test lines and writes an answer line for each, and behind it what else the
+/// line prints.
 pub fn inspect(input: impl Read, output: impl Write) -> io::Result<()> {
     let mut inspector = Inspector::new();
-    answer_lines(input, output, |line, more| {
-        let answer = inspector.run(line);
-        if test_line::parse(line) == Some(TestLine::Show) {
-            // A string takes all that is written to it.
-            let _ = write!(more, "{inspector}");
-        }
-        answer
-    })
+    answer_lines(input, output, |line, more| inspector.run(line, more))
 }
 
 /// Runs each line, and writes its answer line and then what more the run of it wrote.

@@ -15,6 +15,7 @@ pub enum TestLine {
     Pending { codes: [u32; 4] },
     List { places: u32 },
     Show,
+    Status,
 }
 
 impl TestLine {
@@ -31,6 +32,7 @@ impl TestLine {
             TestLine::Pending { codes } => ("pending", codes.to_vec()),
             TestLine::List { places } => ("list", vec![places]),
             TestLine::Show => ("show", Vec::new()),
+            TestLine::Status => ("status", Vec::new()),
         }
     }
 }
@@ -54,6 +56,7 @@ pub fn parse(line: &[u8]) -> Option<TestLine> {
         }
         (b"list", &[places]) => Some(TestLine::List { places }),
         (b"show", &[]) => Some(TestLine::Show),
+        (b"status", &[]) => Some(TestLine::Status),
         _ => None,
     }
 }

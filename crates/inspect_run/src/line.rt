@@ -3,6 +3,7 @@ ghost use Rattle.printing.specs.Waits.{Waits};
 ghost use Rattle.inspect_state.specs.Sized.{Sized};
 use crate::call::call;
 use check::same;
+use inspect_counts::put_answered;
 use inspect_show::put_fixture;
 use inspect_state::alter::alter;
 use inspect_state::fixture::Fixture;
@@ -10,6 +11,7 @@ use inspect_state::fixture::Step;
 use inspect_state::further;
 use model_types::line::Parsed;
 use printing::place;
+use status::status;
 
 // What a line leaves: the fixture, and the end of what waits to be written.
 pub(crate) struct Printed {
@@ -37,14 +39,24 @@ fn put_answer(out: &mut [u8], at: usize, number: u32, answer: u32, value: u32) -
     bench_answer::print_answer(out, next, number, answer, value)
 }
 
-// Answers a line, and shows the fixture if it asks for it.
-pub(crate) fn answer(
-    line: &[u8],
-    number: u32,
-    fixture: Fixture,
-    out: &mut [u8],
-    at: usize,
-) -> Printed
+// Answers a `status` line: as the bench line of status, and all counts behind it.
+fn answer_status(number: u32, fixture: Fixture, out: &mut [u8], at: usize) -> Printed
+    requires { ⌜ Sized fixture ⌝ }
+    requires { ⌜ Waits (now out) at ⌝ }
+    ensures { λ r. ⌜ Sized (r .fixture) ⌝ }
+    ensures { λ r. ⌜ Waits (now (out .exit)) (r .at) ⌝ }
+{
+    let measured = status(fixture.memory);
+    let answer = measured.answer;
+    let end = put_answer(out, at, number, answer.number(), answer.value());
+    Printed {
+        fixture: fixture.with_memory(measured.memory),
+        at: put_answered(out, end, answer),
+    }
+}
+
+// Answers any other line, and shows the fixture if it asks for it.
+fn answer_other(line: &[u8], number: u32, fixture: Fixture, out: &mut [u8], at: usize) -> Printed
     requires { ⌜ Sized fixture ⌝ }
     requires { ⌜ Waits (now out) at ⌝ }
     ensures { λ r. ⌜ Sized (r .fixture) ⌝ }
@@ -63,4 +75,23 @@ pub(crate) fn answer(
         fixture: next,
         at: end,
     }
+}
+
+// Answers a line.
+pub(crate) fn answer(
+    line: &[u8],
+    number: u32,
+    fixture: Fixture,
+    out: &mut [u8],
+    at: usize,
+) -> Printed
+    requires { ⌜ Sized fixture ⌝ }
+    requires { ⌜ Waits (now out) at ⌝ }
+    ensures { λ r. ⌜ Sized (r .fixture) ⌝ }
+    ensures { λ r. ⌜ Waits (now (out .exit)) (r .at) ⌝ }
+{
+    if same(line, b"status") {
+        return answer_status(number, fixture, out, at);
+    }
+    answer_other(line, number, fixture, out, at)
 }

@@ -1,5 +1,5 @@
 //! What is aimed at: each cause for each call that document 01's table names with it, and calls of
-//! transactions that are accepted.
+//! transactions and statuses that are accepted.
 
 use crate::error::Error;
 use crate::line::Operation;
@@ -24,10 +24,11 @@ const FIVE: &[Operation] = SIX.split_at(1).1;
 const THREE: &[Operation] = FIVE.split_at(3).0;
 
 /// The calls of each cause, and how often each is aimed at in a round: more often if there are many
-/// ways to the cause.
-const CAUSES: [(Error, &[Operation], usize); 21] = [
+/// ways to the cause, or two lines for the call.
+const CAUSES: [(Error, &[Operation], usize); 22] = [
     (Error::InvalidMemory, &SIX, 1),
-    (Error::InvalidMemory, &[Operation::Store, Operation::Status], 1),
+    (Error::InvalidMemory, &[Operation::Store], 1),
+    (Error::InvalidMemory, &[Operation::Status], 2),
     (Error::DiskLength, &[Operation::Format, Operation::Open, Operation::Store], 1),
     (Error::DiskBlockCount, &[Operation::Open], 1),
     (Error::DiskBitmap, &[Operation::Open], 2),
@@ -53,6 +54,7 @@ impl Aim {
     /// The aims of one round.
     pub fn all() -> Vec<Aim> {
         let mut aims = aims_of(None, &SIX, 1);
+        aims.extend(aims_of(None, &[Operation::Status], 2));
         for (error, operations, times) in CAUSES {
             aims.extend(aims_of(Some(error), operations, times));
         }

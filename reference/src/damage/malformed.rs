@@ -9,11 +9,17 @@ use crate::line::Line;
 use crate::test_line::TestLine;
 
 const MOST_LINES: u32 = 3;
-const WRONG_LINES: [&str; 16] = [
+const WRONG_LINES: [&str; 22] = [
     "show ",
     " show",
     "show 0",
     "Show",
+    "status ",
+    " status",
+    "status 0",
+    "Status",
+    "statu",
+    "status\r",
     "disk 2",
     "disk 2 4294967296",
     "disk 00000000002 5",

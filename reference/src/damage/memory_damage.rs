@@ -65,7 +65,7 @@ impl Damage {
     }
 
     /// This many active slots, some of them started for it, or fewer if work is pending.
-    fn slots_to_touch(&mut self, wanted: usize) -> Vec<u32> {
+    pub(super) fn slots_to_touch(&mut self, wanted: usize) -> Vec<u32> {
         let mut slots = self.active_slots();
         let first = self.random.below(slots.len() as u32) as usize;
         slots.rotate_left(first);

@@ -15,6 +15,7 @@ pub(super) const MOST_MEMORY_LINES: usize = 12;
 const GIVE_UP_IN: u32 = 40;
 const OPEN_IN: u32 = 5;
 const SHOW_IN: u32 = 12;
+const STATUS_IN: u32 = 10;
 
 /// Whether the history can go on from this state: the memory is valid and the disk is its own, or
 /// the memory is lost and the disk can be opened.
@@ -68,6 +69,7 @@ impl Damage {
         for line in lines {
             self.alter(line);
             self.show_one_in(SHOW_IN);
+            self.status_one_in(STATUS_IN);
         }
     }
 }

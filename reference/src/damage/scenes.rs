@@ -23,7 +23,7 @@ impl Damage {
         Some(arguments)
     }
 
-    /// For one of the six.
+    /// For one of the six, or for a status.
     fn prepare_acceptance(&mut self, operation: Operation) -> Option<(u32, u32)> {
         let either = self.random.choose(&[SlotState::Open, SlotState::Precommitted]);
         match operation {
@@ -34,6 +34,10 @@ impl Damage {
             }
             Operation::Commit => Some((self.slot_in(SlotState::Precommitted)?, 0)),
             Operation::Rollback => Some((self.slot_in(either)?, 0)),
+            Operation::Status => {
+                self.make_other_memory()?;
+                Some(self.any_arguments(operation))
+            }
             _ => Some((self.slot_in(SlotState::Open)?, 0)),
         }
     }

@@ -12,6 +12,7 @@ const LARGE_VOLUMES: [u32; 6] = [1000, 2048, 4064, 4065, 4095, 4096];
 const SOMEWHAT_LARGER: u32 = 200;
 const STRAYS_IN: u32 = 3;
 const SHOW_IN: u32 = 3;
+const STATUS_IN: u32 = 3;
 
 impl Damage {
     /// Makes a new volume, mostly a small one.
@@ -37,5 +38,6 @@ impl Damage {
         }
         self.call(Operation::Open, 0, 0);
         self.show_one_in(SHOW_IN);
+        self.status_one_in(STATUS_IN);
     }
 }

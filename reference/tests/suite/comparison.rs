@@ -26,7 +26,8 @@ pub fn fault_in_history(seed: u64, lines: usize, step: Step) -> Option<&'static 
     })
 }
 
-fn record(ledger: &mut Ledger, line: &Line, answer: Result<u32, Error>, list: &[u32]) {
+/// Enters a line in form with its answer and, for an allocate, the list that it was lent.
+pub fn record(ledger: &mut Ledger, line: &Line, answer: Result<u32, Error>, list: &[u32]) {
     let lists = line.operation == Operation::Allocate && answer.is_ok();
     ledger.record(&Call {
         operation: line.operation,

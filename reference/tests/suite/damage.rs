@@ -65,3 +65,19 @@ fn the_damage_is_of_many_kinds() {
     assert!(seen.loose_stores >= 200 && seen.loose_outer_bits >= 10);
     assert!(seen.empty_lists >= 20);
 }
+
+#[test]
+fn status_lines_stand_in_states_of_many_kinds() {
+    for seed in 0..8 {
+        let seen = observe(seed, 3000).statuses;
+        assert!(seen.accepted >= 150 && seen.refused >= 30, "seed {seed}: {seen:?}");
+        assert!(seen.with_all >= 20 && seen.altered_with_all >= 4, "seed {seed}: {seen:?}");
+    }
+    let seen = observe(9, 60_000).statuses;
+    println!("{seen:?}");
+    assert!(seen.accepted >= 3000 && seen.refused >= 800 && seen.not_in_form >= 30);
+    assert!(seen.with.iter().all(|times| *times >= 900));
+    assert!(seen.with_all >= 350 && seen.busy >= 300);
+    assert!(seen.altered >= 300 && seen.altered_with_all >= 100);
+    assert!(seen.in_work >= 700);
+}

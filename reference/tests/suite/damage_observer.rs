@@ -1,5 +1,6 @@
 //! What a damaging sequence does: it is run, checked and counted.
 
+use crate::status_observer::{check_status, SeenStatuses};
 use reference::damage::Damage;
 use reference::inspector::Inspector;
 use reference::line::{self, Operation};
@@ -40,18 +41,22 @@ pub struct Seen {
     pub loose_stores: u32,
     /// Refused with cause 16: an empty list.
     pub empty_lists: u32,
+    pub statuses: SeenStatuses,
 }
 
 /// Runs a sequence and checks that refused lines leave all as it was.
 pub fn observe(seed: u64, lines: usize) -> Seen {
     let mut seen = Seen::default();
     let mut inspector = Inspector::new();
+    let mut memory_after_call = Memory::ZEROS;
     for line in Damage::new(seed).take(lines) {
         let before = inspector.clone();
-        let answer = inspector.run(&line);
+        let mut more = String::new();
+        let answer = inspector.run(&line, &mut more);
         match (line::parse(&line), answer) {
             (Some(line), Ok(value)) => {
-                seen.count_accepted(&before, &inspector, line.operation, value)
+                seen.count_accepted(&before, &inspector, line.operation, value);
+                memory_after_call = inspector.memory.clone();
             }
             (Some(line), Err(error)) => {
                 let memory = match line.operation {
@@ -61,6 +66,12 @@ pub fn observe(seed: u64, lines: usize) -> Seen {
                 assert_eq!(inspector, Inspector { memory, ..before.clone() });
                 seen.refused[error.code() as usize][line.operation as usize] += 1;
                 seen.count_refused(&before, error);
+            }
+            (None, answer) if test_line::parse(&line) == Some(TestLine::Status) => {
+                assert_eq!(inspector, before);
+                check_status(&before.memory, answer, &more);
+                let altered = before.memory != memory_after_call;
+                seen.statuses.count(&before.memory, altered);
             }
             (None, answer) => {
                 seen.count_test_line(&line, answer.is_ok());
@@ -77,7 +88,12 @@ impl Seen {
         match test_line::parse(line) {
             Some(TestLine::Show) => self.shows += 1,
             Some(_) => self.out_of_range += u32::from(!accepted),
-            None => self.not_in_form += 1,
+            None => {
+                self.not_in_form += 1;
+                let text = line.to_ascii_lowercase();
+                let almost = text.trim_ascii().starts_with(b"statu");
+                self.statuses.not_in_form += u32::from(almost);
+            }
         }
     }
 

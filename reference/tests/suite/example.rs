@@ -70,6 +70,23 @@ fn the_program_prints_a_history_that_depends_on_its_arguments_alone() {
 }
 
 #[test]
+fn the_options_of_a_history_stand_in_any_order() {
+    let print = |options: &[&str]| {
+        let arguments = [&["history", "5", "400", "33"], options].concat();
+        let output = run_program(&arguments, "");
+        assert!(output.status.success());
+        String::from_utf8_lossy(&output.stdout).into_owned()
+    };
+    let without_status = |history: String| history.replace("\nstatus\n", "\n");
+    let (plain, malformed) = (print(&[]), print(&["--malformed"]));
+    let (status, both) = (print(&["--status"]), print(&["--status", "--malformed"]));
+    assert!(status.matches("\nstatus\n").count() > 100);
+    assert_eq!(without_status(status), plain);
+    assert_eq!(both, print(&["--malformed", "--status"]));
+    assert_eq!(without_status(both), malformed);
+}
+
+#[test]
 fn the_program_inspects() {
     let output = run_program(&["inspect"], &format!("{INPUT}list 1\nshow\nop=stat seat=0 n=0"));
     assert!(output.status.success());
@@ -97,13 +114,15 @@ call=15 answer=0 value=2
 
 #[test]
 fn the_program_refuses_other_arguments() {
-    let cases: [&[&str]; 10] = [
+    let cases: [&[&str]; 12] = [
         &[],
         &["benches"],
         &["history", "1", "2"],
         &["history", "1", "2", "4097"],
         &["history", "1", "2", "-1"],
         &["history", "1", "2", "3", "--deformed"],
+        &["history", "1", "2", "3", "--status", "--status"],
+        &["history", "1", "2", "--status"],
         &["inspect", "1"],
         &["sweep", "1"],
         &["damage", "1"],

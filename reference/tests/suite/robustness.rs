@@ -1,6 +1,7 @@
 //! Any memory, any disk, any list, any number: no call panics, a refused call leaves all as it was,
 //! and an accepted one leaves a valid memory.
 
+use crate::counts::counts_by_blocks;
 use crate::state::{State, UNWRITTEN};
 use reference::bench::Bench;
 use reference::history::{History, Shape};
@@ -30,7 +31,11 @@ const CALLS: [AnyCall; 10] = [
     |s, slot, _| commit(&mut s.memory, slot),
     |s, slot, _| rollback(&mut s.memory, slot).map(|()| 0),
     |s, _, _| store(&mut s.memory, &mut s.disk),
-    |s, _, _| status(&s.memory).map(|status| status.active),
+    |s, _, _| {
+        let counts = status(&s.memory)?;
+        assert_eq!(counts, counts_by_blocks(&s.memory));
+        Ok(counts.active)
+    },
 ];
 
 fn number(random: &mut Random) -> u32 {

@@ -4,7 +4,7 @@ use reference::inspector::Inspector;
 use reference::test_line::{parse, TestLine};
 use reference::{Error, Memory, Pending, SlotState};
 
-const IN_FORM: [(&str, TestLine); 14] = [
+const IN_FORM: [(&str, TestLine); 15] = [
     ("disk 0 0", TestLine::Disk { index: 0, word: 0 }),
     ("disk 385 4294967295", TestLine::Disk { index: 385, word: u32::MAX }),
     ("disk 0000000007 0000000009", TestLine::Disk { index: 7, word: 9 }),
@@ -19,9 +19,10 @@ const IN_FORM: [(&str, TestLine); 14] = [
     ("pending 0 0 0 0", TestLine::Pending { codes: [0; 4] }),
     ("list 64", TestLine::List { places: 64 }),
     ("show", TestLine::Show),
+    ("status", TestLine::Status),
 ];
 
-const NOT_IN_FORM: [&[u8]; 40] = [
+const NOT_IN_FORM: [&[u8]; 54] = [
     b"",
     b" ",
     b"show ",
@@ -31,6 +32,20 @@ const NOT_IN_FORM: [&[u8]; 40] = [
     b"sho",
     b"Show",
     b"show\r",
+    b"status ",
+    b"status  ",
+    b" status",
+    b"status 0",
+    b"status 0 0",
+    b"statuss",
+    b"statu",
+    b"stat",
+    b"Status",
+    b"STATUS",
+    b"status\r",
+    b"status\t",
+    b"status=",
+    b"op=status seat=0 n=0",
     b"disk",
     b"disk ",
     b"disk 1",
@@ -64,9 +79,19 @@ const NOT_IN_FORM: [&[u8]; 40] = [
     b"disk=1 2",
 ];
 
+/// Runs a line that prints nothing behind its answer line.
+fn answer(inspector: &mut Inspector, line: &[u8]) -> Result<u32, Error> {
+    let mut more = String::new();
+    let answer = inspector.run(line, &mut more);
+    assert_eq!(more, "", "{}", line.escape_ascii());
+    answer
+}
+
 fn run(lines: &str) -> Inspector {
     let mut inspector = Inspector::new();
-    lines.lines().for_each(|line| assert_eq!(inspector.run(line.as_bytes()), Ok(0), "{line}"));
+    for line in lines.lines() {
+        assert_eq!(answer(&mut inspector, line.as_bytes()), Ok(0), "{line}");
+    }
     inspector
 }
 
@@ -91,7 +116,8 @@ fn lines_not_in_form() {
     for line in NOT_IN_FORM {
         assert_eq!(parse(line), None, "{}", line.escape_ascii());
         let mut inspector = Inspector::new();
-        assert_eq!(inspector.run(line), Err(Error::MalformedLine), "{}", line.escape_ascii());
+        let refused = Err(Error::MalformedLine);
+        assert_eq!(answer(&mut inspector, line), refused, "{}", line.escape_ascii());
         assert_eq!(inspector, Inspector::new());
     }
 }
@@ -114,7 +140,8 @@ fn lines_in_range_and_out_of_range() {
     for (inside, outside) in pairs {
         assert_ne!(run(inside), Inspector::new(), "{inside}");
         let mut inspector = Inspector::new();
-        assert_eq!(inspector.run(outside.as_bytes()), Err(Error::MalformedLine), "{outside}");
+        let refused = Err(Error::MalformedLine);
+        assert_eq!(answer(&mut inspector, outside.as_bytes()), refused, "{outside}");
         assert_eq!(inspector, Inspector::new(), "{outside}");
     }
 }
@@ -124,7 +151,7 @@ fn the_range_of_a_disk_word_is_the_disks_length() {
     run("length 400\ndisk 399 7\nlength 1\ndisk 0 7");
     for lines in ["length 400\ndisk 400 7", "length 1\ndisk 1 7", "length 0\ndisk 0 7"] {
         let mut inspector = Inspector::new();
-        let answers = lines.lines().map(|line| inspector.run(line.as_bytes()));
+        let answers = lines.lines().map(|line| answer(&mut inspector, line.as_bytes()));
         let answers: Vec<_> = answers.collect();
         assert_eq!(answers, [Ok(0), Err(Error::MalformedLine)], "{lines}");
     }

@@ -86,11 +86,17 @@ fn a_block_freed_and_retaken_is_not_another_open_transactions() {
 fn status_counts_blocks_and_slots() {
     let mut state = two_transactions();
     let counts = |state: &State| status(&state.memory).unwrap();
-    assert_eq!(counts(&state), Status { allocated: 32, free: 8, active: 2 });
+    let before =
+        Status { allocated: 32, available: 4, allocating: 4, freeing: 2, held: 30, active: 2 };
+    assert_eq!(counts(&state), before);
     state.precommit(1);
-    assert_eq!(counts(&state), Status { allocated: 32, free: 8, active: 2 });
+    assert_eq!(counts(&state), before);
     assert_eq!(state.begin_commit(2), 8);
-    assert_eq!(counts(&state), Status { allocated: 32, free: 8, active: 2 });
-    state.stores(8);
-    assert_eq!(counts(&state), Status { allocated: 33, free: 7, active: 1 });
+    assert_eq!(counts(&state), before);
+    state.stores(7);
+    assert_eq!(counts(&state), before);
+    state.stores(1);
+    let after =
+        Status { allocated: 33, available: 5, allocating: 2, freeing: 1, held: 32, active: 1 };
+    assert_eq!(counts(&state), after);
 }

@@ -1,0 +1,69 @@
+//! Other memories that are valid, mostly with several transactions that have touched blocks.
+
+use super::Damage;
+use crate::bitmap::Bitmap;
+use crate::memory::{Memory, SlotState};
+use crate::test_line::TestLine;
+
+const MOST_SLOTS: u32 = 4;
+const MOST_TOUCHES: u32 = 2;
+const MOST_CHANGES: u32 = 3;
+const STATUS_IN: u32 = 2;
+
+impl Damage {
+    /// Some transactions touch blocks. Then the memory is changed so that it stays valid, though
+    /// its disk is another's.
+    pub(super) fn make_other_memory(&mut self) -> Option<()> {
+        self.come_to_rest()?;
+        self.touch_in_some_slots();
+        for _ in 0..self.random.below(MOST_CHANGES + 1) {
+            match self.random.below(4) {
+                0 => {
+                    let block = self.volume_block();
+                    self.flip_everywhere(block);
+                }
+                1 => self.move_the_end(),
+                _ => self.replace_a_word_everywhere(),
+            }
+            self.status_one_in(STATUS_IN);
+        }
+        Some(())
+    }
+
+    fn touch_in_some_slots(&mut self) {
+        self.lengthen_list();
+        let slots = 1 + self.random.below(MOST_SLOTS) as usize;
+        for slot in self.slots_to_touch(slots) {
+            let open = self.state.memory.slots[slot as usize].state == SlotState::Open;
+            let touches = if open { 1 + self.random.below(MOST_TOUCHES) } else { 0 };
+            (0..touches).for_each(|_| self.touch(slot));
+        }
+    }
+
+    /// Another block count with which no bitmap has a bit too many.
+    fn move_the_end(&mut self) {
+        let Memory { blocks, sam, com, .. } = &self.state.memory;
+        let has_either = |block: &u32| sam.has(*block) || com.has(*block);
+        let least = (0..*blocks).rev().find(has_either).map_or(1, |last| last + 1);
+        let any = least + self.random.below(Bitmap::MAX_BLOCKS + 1 - least);
+        let edge = least.next_multiple_of(Bitmap::WORD_BITS);
+        let blocks = self.random.choose(&[least, edge, any, Bitmap::MAX_BLOCKS]);
+        self.alter(TestLine::Blocks { blocks });
+    }
+
+    /// Another word in SAM, of which each active slot has touched some blocks and none another's.
+    fn replace_a_word_everywhere(&mut self) {
+        let words = Bitmap::words_for(self.state.memory.blocks);
+        let index = self.random.below(words);
+        let bits = Bitmap::volume_bits(self.state.memory.blocks, index as usize);
+        let sam = self.any_word() & bits;
+        let mut untouched = bits;
+        self.alter(TestLine::Sam { index, word: sam });
+        for slot in self.active_slots() {
+            let touched = self.any_word() & untouched;
+            untouched ^= touched;
+            self.alter(TestLine::Tam { slot, index, word: sam ^ touched });
+        }
+        self.alter(TestLine::Com { index, word: sam ^ bits ^ untouched });
+    }
+}
