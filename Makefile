@@ -1,4 +1,5 @@
 # make bench [FILE=history]   proves and builds the bench program and runs it on document 01's example, or on a file of bench lines
+# make inspect [FILE=lines]   the same with the test program, which takes test lines too (docs/TEST-LINES.md)
 # make test                   everything: the second allocator's tests, the stored tests it makes, then the prover's gate
 # make soak [SEEDS=n]         n more seeds of random histories and damage through both allocators; the first difference is shown
 # make speed                  both timed on the same histories and on each kind of call; fails if a goal of docs/SPEED.md is missed
@@ -10,15 +11,18 @@ JOBS ?= 6
 SEEDS ?= 20
 REFERENCE := reference/target/release/reference
 
-.PHONY: bench program inspect reference reference-test stored-tests test soak speed clean
+.PHONY: bench inspect program test-program reference reference-test stored-tests test soak speed clean
 
 bench: program
 	@target/bin/bench < $(FILE)
 
+inspect: test-program
+	@target/bin/inspect < $(FILE)
+
 program:
 	@bench/prove bench
 
-inspect:
+test-program:
 	@bench/prove inspect
 
 reference:
@@ -34,7 +38,7 @@ stored-tests: reference
 test: reference-test stored-tests
 	RT_JOBS=$(JOBS) rt ci
 
-soak: program inspect reference
+soak: program test-program reference
 	@bench/soak $(SEEDS)
 
 speed: program reference

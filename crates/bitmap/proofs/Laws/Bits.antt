@@ -33,14 +33,6 @@ bit-word words k i h =
     let r : (32 * k + i) % 32 ≡ i = omega arith in
     rw (d, r)
 
--- the blocks of the words after the first start 32 further on
-pub bit-next : (word : ℕ) (words : List ℕ) (b : ℕ) → bit (word ∷ words) (32 + b) ≡ bit words b
-unfolding bit
-bit-next word words b =
-    let d : (32 + b) / 32 ≡ suc (b / 32) = omega arith in
-    let r : (32 + b) % 32 ≡ b % 32 = omega arith in
-    rw (d, r)
-
 -- two words are one if their bits are
 pub word-of-bits : (u v : List ℕ) (k : ℕ) → getD u k 0 < 2 ^ wordBits → getD v k 0 < 2 ^ wordBits
     → ((i : ℕ) → i < 32 → bit u (32 * k + i) ≡ bit v (32 * k + i)) → getD u k 0 ≡ getD v k 0
