@@ -37,14 +37,14 @@ available-is-compared memory is-valid count = refl
 
 -- ---- an allocate and cause 17
 
--- cause 17, the last one, holds if it is the error of the list. Below `cN` is what is left of the list from cause N on
+-- the last cause of a list holds if the list has its error
 last-holds : (holds : Bool) (error : Error) → first (holds ⇒ error ∷ []) ≡ some error → holds ≡ true
 unfolding first firstOr
 last-holds true error e = refl
 last-holds false error e = cc
 
 module _ (memory : Memory) (s count : ℕ) (list : List ℕ) where
-  -- refused by 17, there are too few
+  -- refused by 17, there are too few: `cN` is what is left of the list from cause N on
   too-few : allocateError memory s count list ≡ some TooFewAvailable → tooFewAvailable memory count ≡ true
   unfolding allocateError
   too-few c1 =
