@@ -34,6 +34,7 @@ reference-test: reference
 stored-tests: reference
 	bench/check-tests
 	bench/check-causes
+	bench/check-costs
 
 test: reference-test stored-tests
 	RT_JOBS=$(JOBS) rt ci

@@ -1,7 +1,8 @@
-//! The allocator's calls. Each tests the causes that name it in document 01's table, in number
-//! order, and a refused call changes nothing.
+//! The allocator's calls. Each tests the causes that name it in document 01's table, or commit cost
+//! those that document 02 gives it, in number order, and a refused call changes nothing.
 
 mod allocate;
+mod commit_cost;
 mod deallocate;
 mod format;
 mod open;
@@ -11,6 +12,7 @@ mod store;
 mod transaction;
 
 pub use allocate::{allocate, MAX_COUNT};
+pub use commit_cost::commit_cost;
 pub use deallocate::deallocate;
 pub use format::format;
 pub use open::{open, Opened};

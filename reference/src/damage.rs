@@ -4,6 +4,7 @@
 
 mod aims;
 mod arguments;
+mod costs;
 mod counts;
 mod disk_damage;
 mod log_damage;
@@ -26,24 +27,28 @@ use crate::line::{Line, Operation};
 use crate::memory::Pending;
 use crate::random::Random;
 use crate::test_line::TestLine;
-use aims::Aim;
+use aims::{Aim, Call};
 use mending::is_sound;
 use std::collections::VecDeque;
 
 const NEW_VOLUME_IN: u32 = 80;
-const WIDE_WORK_IN: u32 = 400;
+const WIDE_WORK_IN: u32 = 600;
 const MALFORMED_IN: u32 = 25;
 const STEPS_IN: u32 = 4;
 const MOST_STEPS: u32 = 4;
 /// One in this many steps of pending work isn't a store.
 const INTERRUPTED_IN: u32 = 8;
-const STRAYS_IN: u32 = 3;
+const STRAYS_IN: u32 = 4;
 const MOST_STRAYS: u32 = 3;
 const SHORT_LIST_IN: u32 = 4;
-const SHOW_AFTER_STEP_IN: u32 = 6;
-const SHOW_DAMAGE_IN: u32 = 5;
+const SHOW_AFTER_STEP_IN: u32 = 10;
+const UNSHOWN_CALL_IN: u32 = 3;
+const SHOW_STRAY_IN: u32 = 3;
+const SHOW_DAMAGE_IN: u32 = 10;
 const STATUS_AFTER_CALL_IN: u32 = 6;
 const STATUS_OF_DAMAGE_IN: u32 = 5;
+const COST_AFTER_CALL_IN: u32 = 12;
+const COST_OF_SCENE_IN: u32 = 3;
 /// One in this many calls of status is a test line, the others are bench lines.
 const STATUS_LINE_IN: u32 = 4;
 
@@ -109,23 +114,27 @@ impl Damage {
             }
             self.show_one_in(SHOW_AFTER_STEP_IN);
             self.status_one_in(STATUS_AFTER_CALL_IN);
+            self.cost_one_in(COST_AFTER_CALL_IN);
         }
     }
 
     /// Tries for one of the aims that are still to be reached.
     fn pursue_aim(&mut self) {
-        if self.aims.is_empty() {
-            self.aims = Aim::all();
-        }
-        let index = self.random.below(self.aims.len() as u32) as usize;
-        let aim = self.aims[index];
+        let aim = self.choose_aim();
         let Some((slot, number)) = self.prepare(aim) else {
             return;
         };
         self.show_one_in(SHOW_DAMAGE_IN);
         self.status_one_in(STATUS_OF_DAMAGE_IN);
-        if self.call(aim.operation, slot, number) == aim.error {
-            self.aims.swap_remove(index);
+        if aim.is_of_a_transaction() && self.random.one_in(COST_OF_SCENE_IN) {
+            self.cost_beside(aim.call, slot, number);
+        }
+        let error = match aim.call {
+            Call::Bench(operation) => self.call(operation, slot, number),
+            Call::Cost => self.cost(slot, number),
+        };
+        if error == aim.error {
+            self.strike_off(aim);
         }
         self.show_mostly();
         self.status_one_in(STATUS_AFTER_CALL_IN);
@@ -140,13 +149,14 @@ impl Damage {
             let operation = self.any_operation();
             let (slot, number) = self.any_arguments(operation);
             self.call(operation, slot, number);
-            self.show_one_in(2);
+            self.show_one_in(SHOW_STRAY_IN);
             self.status_one_in(STATUS_AFTER_CALL_IN);
+            self.cost_one_in(COST_AFTER_CALL_IN);
         }
     }
 
     fn show_mostly(&mut self) {
-        if !self.random.one_in(4) {
+        if !self.random.one_in(UNSHOWN_CALL_IN) {
             self.alter(TestLine::Show);
         }
     }
@@ -179,8 +189,12 @@ impl Damage {
     }
 
     fn alter(&mut self, line: TestLine) {
-        let bytes = text::bytes(&mut self.random, &line);
-        self.put(bytes);
+        self.put_test_line(&line);
+    }
+
+    fn put_test_line(&mut self, line: &TestLine) -> Option<Error> {
+        let bytes = text::bytes(&mut self.random, line);
+        self.put(bytes)
     }
 
     /// Adds a line to the plan and runs it. It gives the error if the line is refused.

@@ -32,7 +32,7 @@ pub enum Error {
     SlotPrecommitted = 13,
     /// The slot isn't precommitted.
     SlotNotPrecommitted = 14,
-    /// The number of blocks to allocate isn't 1 to 64.
+    /// The number of blocks to allocate isn't 1 to 64, that of a commit cost is above 64.
     Count = 15,
     /// The list is shorter than the count.
     ListLength = 16,

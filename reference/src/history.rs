@@ -4,6 +4,7 @@
 mod choice;
 pub(crate) mod malformed;
 pub(crate) mod text;
+mod with_cost;
 mod with_status;
 
 use crate::bench::Bench;
@@ -13,6 +14,7 @@ use crate::line::{Line, Operation};
 use crate::memory::Memory;
 use crate::random::Random;
 
+pub use with_cost::with_cost;
 pub use with_status::with_status;
 
 const MALFORMED_IN: u32 = 12;

@@ -1,6 +1,6 @@
 //! The inspector: what its calls are lent, and what each bench line and test line does to it.
 
-use crate::calls::{open, status, MAX_COUNT};
+use crate::calls::{commit_cost, open, status, MAX_COUNT};
 use crate::codes::{pending_of, slot_state_of};
 use crate::disk::DISK_WORDS;
 use crate::error::Error;
@@ -76,14 +76,14 @@ impl Inspector {
             }
             TestLine::Pending { codes } => memory.pending = pending_of(codes)?,
             TestLine::List { places } => self.places = at_most(places, LIST_PLACES)?,
-            TestLine::Show | TestLine::Status => {}
+            TestLine::Show | TestLine::Status | TestLine::Cost { .. } => {}
         }
         Some(())
     }
 
     /// Prints what the test line asks to be told, if anything, and gives its value.
     fn report(&self, line: &TestLine, more: &mut String) -> Result<u32, Error> {
-        match line {
+        match *line {
             TestLine::Show => {
                 more.push_str(&self.to_string());
                 Ok(0)
@@ -93,6 +93,7 @@ impl Inspector {
                 more.push_str(&status.to_string());
                 Ok(status.allocated)
             }
+            TestLine::Cost { slot, count } => commit_cost(&self.memory, slot, count),
             _ => Ok(0),
         }
     }

@@ -1,4 +1,5 @@
-//! A second block allocator, written from document 01 alone, against which another one is compared.
+//! A second block allocator, written from document 01 and from jobs 1 and 2 of document 02 alone,
+//! against which another one is compared.
 
 mod agreement;
 mod bitmap;
@@ -30,8 +31,8 @@ pub mod test_line;
 pub use bitmap::{majority, Bitmap};
 pub use block_set::BlockSet;
 pub use calls::{
-    allocate, commit, deallocate, format, open, precommit, rollback, start, status, store, Opened,
-    Status, MAX_COUNT,
+    allocate, commit, commit_cost, deallocate, format, open, precommit, rollback, start, status,
+    store, Opened, Status, MAX_COUNT,
 };
 pub use disk::{BITMAP_START, BLOCKS_POSITION, DISK_WORDS, LOG_LENGTH_POSITION, LOG_START};
 pub use error::Error;

@@ -1,7 +1,7 @@
 //! The program `reference`: the bench and the test programs, and the makers of their inputs.
 
 use reference::damage::Damage;
-use reference::history::{with_status, History, Shape};
+use reference::history::{with_cost, with_status, History, Shape};
 use reference::{program, sweep};
 use std::io::{self, BufWriter, ErrorKind, Write};
 use std::process::ExitCode;
@@ -10,10 +10,12 @@ use std::str::FromStr;
 const USAGE: &str = "usage: reference bench
        reference inspect
        reference sweep
-       reference history SEED LINES BLOCKS [--malformed] [--status]
+       reference history SEED LINES BLOCKS [--malformed] [--status] [--cost]
        reference damage SEED LINES
 BLOCKS is 1 to 4096, or 0 for a random number
-with --status there are further lines, for inspect";
+with --status and with --cost there are further lines, for inspect";
+
+const HISTORY_OPTIONS: [&str; 3] = ["--malformed", "--status", "--cost"];
 
 fn main() -> ExitCode {
     let arguments: Vec<String> = std::env::args().skip(1).collect();
@@ -39,25 +41,28 @@ fn main() -> ExitCode {
 }
 
 fn print_history(seed: &str, lines: &str, blocks: &str, options: &[&str]) -> io::Result<()> {
-    let (malformed, status) = history_options(options)?;
+    let [malformed, status, cost] = history_options(options)?;
     let seed = number(seed)?;
     let shape = Shape { blocks: number(blocks)?, malformed, reformats: true };
     let history = History::new(seed, shape).ok_or_else(usage_error)?.take(number(lines)?);
+    let mut lines: Box<dyn Iterator<Item = Vec<u8>>> = Box::new(history);
     if status {
-        print_lines(with_status(seed, history))
-    } else {
-        print_lines(history)
+        lines = Box::new(with_status(seed, lines));
     }
+    if cost {
+        lines = Box::new(with_cost(seed, lines));
+    }
+    print_lines(lines)
 }
 
-/// Whether lines not in form are wanted, and status lines.
-fn history_options(options: &[&str]) -> io::Result<(bool, bool)> {
-    match options {
-        [] => Ok((false, false)),
-        ["--malformed"] => Ok((true, false)),
-        ["--status"] => Ok((false, true)),
-        ["--malformed", "--status"] | ["--status", "--malformed"] => Ok((true, true)),
-        _ => Err(usage_error()),
+/// Which of a history's options are given. They stand in any order, none twice.
+fn history_options(options: &[&str]) -> io::Result<[bool; 3]> {
+    let given = HISTORY_OPTIONS.map(|option| options.contains(&option));
+    let known = given.iter().filter(|is_given| **is_given).count();
+    if known == options.len() {
+        Ok(given)
+    } else {
+        Err(usage_error())
     }
 }
 

@@ -61,6 +61,17 @@ impl Memory {
         !used & Bitmap::volume_bits(self.blocks, word)
     }
 
+    /// The number of available blocks. Any words and numbers may stand in the memory.
+    pub fn available(&self) -> u32 {
+        (0..Bitmap::WORDS).map(|word| self.available_in(word).count_ones()).sum()
+    }
+
+    /// t, the number of blocks that this transaction has touched: where TAM differs from SAM.
+    pub fn touched_blocks(&self, tam: &Bitmap) -> u32 {
+        let words = tam.words.iter().zip(&self.sam.words);
+        words.map(|(tam, sam)| (tam ^ sam).count_ones()).sum()
+    }
+
     /// SAM as the commit of this transaction leaves it (table 3 of document 000).
     pub fn sam_after_commit(&self, tam: &Bitmap) -> Bitmap {
         Bitmap::combine(&self.sam, &self.com, tam, majority)

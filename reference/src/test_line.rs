@@ -14,6 +14,7 @@ pub enum TestLine {
     State { slot: u32, code: u32 },
     Pending { codes: [u32; 4] },
     List { places: u32 },
+    Cost { slot: u32, count: u32 },
     Show,
     Status,
 }
@@ -31,6 +32,7 @@ impl TestLine {
             TestLine::State { slot, code } => ("state", vec![slot, code]),
             TestLine::Pending { codes } => ("pending", codes.to_vec()),
             TestLine::List { places } => ("list", vec![places]),
+            TestLine::Cost { slot, count } => ("cost", vec![slot, count]),
             TestLine::Show => ("show", Vec::new()),
             TestLine::Status => ("status", Vec::new()),
         }
@@ -55,6 +57,7 @@ pub fn parse(line: &[u8]) -> Option<TestLine> {
             Some(TestLine::Pending { codes: [kind, slot, done, due] })
         }
         (b"list", &[places]) => Some(TestLine::List { places }),
+        (b"cost", &[slot, count]) => Some(TestLine::Cost { slot, count }),
         (b"show", &[]) => Some(TestLine::Show),
         (b"status", &[]) => Some(TestLine::Status),
         _ => None,

@@ -1,5 +1,6 @@
 -- Counts of blocks.
 pub mod Count
 pub mod Tally
+pub mod Differing
 pub mod Available
 pub mod Whole

@@ -5,7 +5,7 @@ ghost use lib.ListN.{length};
 ghost use Rattle.bitmap.specs.Sizes.{maxBlocks, wordBits};
 ghost use Rattle.bitmap.specs.Bits.{IsBitmap};
 ghost use Rattle.bitmap.specs.Blocks.{availableBlocks};
-ghost use Rattle.counting.specs.Count.{IsTally, countFrom, CanCount, IsCount};
+ghost use Rattle.counting.specs.Count.{IsTally, countDiffering, countFrom, CanCount, IsCount};
 use available::available::available_word;
 use bitmap::Bitmap;
 
@@ -35,6 +35,19 @@ pub fn count_blocks(sam: &[u32; 128], com: &[u32; 128]) -> Tally
         allocating,
         freeing,
     }
+}
+
+// The number of blocks at which two bitmaps differ, in one pass over all words.
+pub fn count_differing(left: &[u32; 128], right: &[u32; 128]) -> u32
+    requires { ⌜ IsBitmap (now left) ⌝ }
+    requires { ⌜ IsBitmap (now right) ⌝ }
+    ensures { λ r. ⌜ r ≡ countDiffering (now (left .entry)) (now (right .entry)) ⌝ }
+{
+    let mut count = 0;
+    for i in 0..Bitmap::WORDS {
+        count += u32::count_ones(left[i] ^ right[i]);
+    }
+    count
 }
 
 // The number of available blocks of word k, which the volume fills.

@@ -2,11 +2,10 @@
 use Prim.Native.Nat.{ℕ, zero, suc, _≤_}
 use native.Mathlib.Omega.{arith}
 use mathlib.Core.Path.{_≡_, refl, sym, ap, _∙_, subst}
-use mathlib.Core.Bool.{Bool, true, false, cond, false≢true}
+use mathlib.Core.Bool.{false, false≢true}
 use mathlib.Core.Option.{Option, none}
 use mathlib.Core.List.{List}
 use lib.ListN.{getD, replicate}
-use lib.Dec.{eqb}
 use Rattle.bitmap.specs.Sizes.{slotCount, blocksInRange}
 use Rattle.bitmap.specs.Bits.{bit}
 use Rattle.bitmap.specs.Blocks.{member}
@@ -16,19 +15,18 @@ use Rattle.model_types.specs.declared.memory.Slot.{Slot}
 use Rattle.model_types.specs.declared.memory.Pending.{Pending}
 use Rattle.model_types.specs.Memory.{zeroMemory, idleSlot, quietMemory, bitmap}
 use Rattle.model.specs.First.{unlessRefused}
-use Rattle.model_types.specs.Answers.{storesNumber, statusNumber}
+use Rattle.model_types.specs.Answers.{storesNumber}
 use Rattle.model.specs.Valid.{valid}
 use Rattle.model.specs.Disk.{diskBlocks, logLength, durable}
 use Rattle.model.specs.Calls.Opening.{openError, recoveryDue, recoveryPending, opened, openAnswer, openMemory}
-use Rattle.model.specs.Calls.Status.{statusAnswer}
-use Rattle.model.specs.Outcome.{outcome, openCall, statusCall, crashCall}
+use Rattle.model.specs.Outcome.{outcome, openCall, statusCall, commitCostCall, crashCall}
 use Rattle.model.proofs.Laws.Numbers.{numberOf, stores-number}
 use Rattle.model.proofs.Laws.Durable.{durable-length}
 use Rattle.crash_safety.specs.Ledger.{Event, Sets, noSets, Ledger, emptied, entered, enter, enterAll, crashEvent, holders, opening}
 use Rattle.crash_safety.specs.World.{World, worldOf, eventOf, events, step}
 use Rattle.crash_safety.proofs.Holders.{one-le, takers-crashed}
 use Rattle.crash_safety.proofs.Invariant.{Tied, Plain, PendingTied, Invariant, same-disk}
-use Rattle.crash_safety.proofs.Refused.{enter-accepted}
+use Rattle.crash_safety.proofs.Refused.{enter-accepted, asked-nothing}
 use Rattle.crash_safety.proofs.Small.{durable-small}
 
 -- the memory of zeros isn't valid
@@ -112,13 +110,15 @@ open-keeps w i =
     opens : Event
     opens = eventOf opening 0 0 (outcome openCall (w .memory) (w .disk))
 
--- ---- status
+-- ---- status and commit cost
 
-either-way : (t : Bool) (ledger : Ledger) → cond t ledger ledger ≡ ledger
-either-way true ledger = refl
-either-way false ledger = refl
+module _ (w : World) where
+  pub status-keeps : Invariant w → Invariant (step statusCall w)
+  unfolding step events outcome
+  status-keeps i =
+      subst (λ (l : Ledger). Invariant (worldOf (w .memory) (w .disk) l)) (sym (asked-nothing 0 (outcome statusCall (w .memory) (w .disk)) (w .ledger))) i
 
-pub status-keeps : (w : World) → Invariant w → Invariant (step statusCall w)
-unfolding step events enterAll outcome enter entered
-status-keeps w i =
-    subst (λ (l : Ledger). Invariant (worldOf (w .memory) (w .disk) l)) (sym (either-way (eqb (statusNumber (statusAnswer (w .memory))) 0) (w .ledger))) i
+  pub commit-cost-keeps : (s count : ℕ) → Invariant w → Invariant (step (commitCostCall s count) w)
+  unfolding step events outcome
+  commit-cost-keeps s count i =
+      subst (λ (l : Ledger). Invariant (worldOf (w .memory) (w .disk) l)) (sym (asked-nothing s (outcome (commitCostCall s count) (w .memory) (w .disk)) (w .ledger))) i

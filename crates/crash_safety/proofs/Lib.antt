@@ -24,5 +24,6 @@ pub mod InOrder
 pub mod Completion
 pub mod Recovering
 pub mod Theorem
+pub mod CommitCost
 pub mod Consequences
 pub mod Histories

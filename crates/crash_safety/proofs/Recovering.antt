@@ -6,15 +6,17 @@ use mathlib.Core.Option.{Option, none}
 use mathlib.Core.List.{List, [], _∷_}
 use lib.ListN.{replicate}
 use lib.Dec.{eqb}
-use Rattle.model.specs.Outcome.{Call, outcome, openCall, startCall, allocateCall, deallocateCall, precommitCall, commitCall, rollbackCall, storeCall, statusCall, crashCall}
+use Rattle.model.specs.Outcome.{Call, outcome, openCall, startCall, allocateCall, deallocateCall, precommitCall, commitCall, rollbackCall, storeCall, statusCall, commitCostCall, crashCall}
 use Rattle.crash_safety.specs.Ledger.{Ledger, Counting, emptied, enter, entered, enterAll, stores}
 use Rattle.crash_safety.specs.World.{World, events, step, run}
+use Rattle.crash_safety.proofs.Refused.{asked-nothing}
 
 -- opens, stores, crashes and questions, in any order
 abbrev pub Recovers : Call → Type 0
 Recovers openCall = Unit {0}
 Recovers storeCall = Unit {0}
 Recovers statusCall = Unit {0}
+Recovers (commitCostCall s count) = Unit {0}
 Recovers crashCall = Unit {0}
 Recovers (startCall s) = ⊥
 Recovers (allocateCall s count list) = ⊥
@@ -61,17 +63,18 @@ module _ (allocated : List ℕ) (w : World) where
         go false = s
 
     status-settled : Settled allocated (step statusCall w .ledger)
-    unfolding step events enterAll enter entered
-    status-settled = go (eqb (outcome statusCall (w .memory) (w .disk) .number) 0)
-      where
-        go : (t : Bool) → Settled allocated (cond t (w .ledger) (w .ledger))
-        go true = s
-        go false = s
+    unfolding step events
+    status-settled = subst (Settled allocated) (sym (asked-nothing 0 (outcome statusCall (w .memory) (w .disk)) (w .ledger))) s
+
+    cost-settled : (slot count : ℕ) → Settled allocated (step (commitCostCall slot count) w .ledger)
+    unfolding step events
+    cost-settled slot count = subst (Settled allocated) (sym (asked-nothing slot (outcome (commitCostCall slot count) (w .memory) (w .disk)) (w .ledger))) s
 
 step-settled : (call : Call) (w : World) (allocated : List ℕ) → Recovers call → Settled allocated (w .ledger) → Settled allocated (step call w .ledger)
 step-settled openCall w allocated r s = open-settles allocated w (s .same)
 step-settled storeCall w allocated r s = store-settled allocated w s
 step-settled statusCall w allocated r s = status-settled allocated w s
+step-settled (commitCostCall slot count) w allocated r s = cost-settled allocated w s slot count
 step-settled crashCall w allocated r s = crash-settles allocated w (s .same)
 step-settled (startCall s) w allocated r t = absurd r
 step-settled (allocateCall s count list) w allocated r t = absurd r

@@ -1,17 +1,18 @@
 -- A refused call alters nothing, so a call keeps the invariant if it does where it is accepted.
 use Prim.Native.Nat.{ℕ}
 use mathlib.Core.Path.{_≡_, refl, sym, ap, _∙_, subst}
-use mathlib.Core.Bool.{Bool, cond}
+use mathlib.Core.Bool.{Bool, true, false, cond}
 use mathlib.Core.Option.{Option, none, some}
-use mathlib.Core.List.{List}
+use mathlib.Core.List.{List, [], _∷_}
 use lib.Dec.{eqb}
 use Rattle.model_types.specs.declared.memory.Memory.{Memory}
 use Rattle.model_types.specs.declared.error.Error.{Error}
 use Rattle.model_types.specs.Errors.{code}
 use Rattle.model.specs.First.{unlessRefused}
 use Rattle.model.proofs.Laws.Numbers.{numberOf, code-positive}
-use Rattle.crash_safety.specs.Ledger.{Event, Ledger, enter, entered}
-use Rattle.crash_safety.specs.World.{World, worldOf}
+use Rattle.model.specs.Outcome.{Outcome}
+use Rattle.crash_safety.specs.Ledger.{Event, Ledger, enter, entered, enterAll, asking}
+use Rattle.crash_safety.specs.World.{World, worldOf, eventOf}
 use Rattle.crash_safety.proofs.Invariant.{Invariant}
 
 -- what an event alters where its call is accepted
@@ -27,6 +28,15 @@ enter-refused event ledger error e =
 pub enter-accepted : (event : Event) (ledger : Ledger) → event .answer ≡ 0 → enter event ledger ≡ alters event ledger
 unfolding enter
 enter-accepted event ledger e = ap (λ (n : ℕ). cond (eqb n 0) (alters event ledger) ledger) e
+
+-- a question alters nothing, refused or not
+pub asked-nothing : (s : ℕ) (after : Outcome) (ledger : Ledger) → enterAll (eventOf asking s 0 after ∷ []) ledger ≡ ledger
+unfolding enterAll enter entered
+asked-nothing s after ledger = either-way (eqb (after .number) 0)
+  where
+    either-way : (t : Bool) → cond t ledger ledger ≡ ledger
+    either-way true = refl
+    either-way false = refl
 
 -- a call on memory and disk
 pub call-keeps : (w : World) (error : Option Error) (memory : Memory) (disk : List ℕ) (event : Event)

@@ -118,7 +118,7 @@ stores ledger (some counting) =
     (commits ledger (counting .slot))
     (withCounting ledger (some (record { slot = counting .slot; number = counting .number + 1 })))
 
--- what an accepted call, or a crash, alters. "start, precommit, status: nothing alters"
+-- what an accepted call, or a crash, alters. "start, precommit, status: nothing alters"; a commit cost asks as status does
 unfoldable pub entered : Kind → ℕ → ℕ → List ℕ → Ledger → Ledger
 entered opening s block listed ledger = emptied ledger
 entered starting s block listed ledger = ledger

@@ -3,3 +3,4 @@ pub mod Ledger
 pub mod World
 pub mod Statement
 pub mod InOrder
+pub mod CommitCost

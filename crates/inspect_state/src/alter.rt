@@ -11,6 +11,7 @@ use crate::fixture::MAX_LENGTH;
 use crate::fixture::MAX_PLACES;
 use crate::fixture::Step;
 use crate::further::Further;
+use commit_cost::commit_cost;
 
 // Word I of the disk becomes V.
 fn disk_word(mut fixture: Fixture, index: u32, word: u32) -> Step
@@ -63,6 +64,20 @@ fn list_places(mut fixture: Fixture, number: u32) -> Step
     fixture.done()
 }
 
+// The call commit cost. The memory that it gives back is the same.
+fn ask_cost(fixture: Fixture, slot: u32, count: u32) -> Step
+    requires { ⌜ Sized fixture ⌝ }
+    ensures { λ r. ⌜ Sized (r .fixture) ⌝ }
+{
+    let asked = commit_cost(fixture.memory, slot, count);
+    let answer = asked.answer;
+    Step {
+        fixture: fixture.with_memory(asked.memory),
+        answer: answer.number(),
+        value: answer.value(),
+    }
+}
+
 // Any further line.
 pub fn alter(line: Further, fixture: Fixture) -> Step
     requires { ⌜ Sized fixture ⌝ }
@@ -83,6 +98,7 @@ pub fn alter(line: Further, fixture: Fixture) -> Step
             due,
         } => pending_work(fixture, kind, slot, done, due),
         Further::List { places } => list_places(fixture, places),
+        Further::Cost { slot, count } => ask_cost(fixture, slot, count),
         Further::Show => fixture.done(),
         Further::Malformed => fixture.malformed(),
     }

@@ -42,6 +42,10 @@ pub enum Further {
     List {
         places: u32,
     },
+    Cost {
+        slot: u32,
+        count: u32,
+    },
     Show,
     Malformed,
 }
@@ -92,6 +96,12 @@ fn two(name: &[u8], first: u32, second: u32) -> Further {
         return Further::State {
             slot: first,
             code: second,
+        };
+    }
+    if same(name, b"cost") {
+        return Further::Cost {
+            slot: first,
+            count: second,
         };
     }
     Further::Malformed

@@ -19,10 +19,13 @@ pub mod Touches
 pub mod Rollback
 pub mod Untouched
 pub mod Taking
+pub mod TouchedBlocks
 pub mod Committed
 pub mod Pending
 pub mod CommitLog
 pub mod Durable
 pub mod RecoveryLog
+pub mod TouchedBy
+pub mod CommitCost
 pub mod Opened
 pub mod Rows

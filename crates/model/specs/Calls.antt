@@ -1,4 +1,4 @@
--- The ten calls: for each the first error that holds, over exactly the causes that name it, and, refused or not, its
+-- The eleven calls: for each the first error that holds, over exactly the causes that name it, and, refused or not, its
 -- answer and the memory, list and disk after it.
 pub mod Format
 pub mod Opening
@@ -10,3 +10,4 @@ pub mod Committing
 pub mod Rollback
 pub mod Storing
 pub mod Status
+pub mod CommitCost

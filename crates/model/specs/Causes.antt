@@ -4,7 +4,7 @@ use mathlib.Core.Bool.{Bool, not, _&&_}
 use mathlib.Core.List.{List}
 use lib.ListN.{length}
 use lib.Dec.{leb, ltb, eqb}
-use Rattle.bitmap.specs.Sizes.{blocksInRange, countInRange, slotInRange}
+use Rattle.bitmap.specs.Sizes.{maxCount, blocksInRange, countInRange, slotInRange}
 use Rattle.bitmap.specs.Bits.{noBitsFrom}
 use Rattle.bitmap.specs.Blocks.{availableBlocks}
 use Rattle.model.specs.Types.{Memory}
@@ -73,6 +73,10 @@ slotNotPrecommitted memory s = not (slotPrecommitted memory s)
 -- 15, "count outside 1 to 64"
 unfoldable pub countOutOfRange : ℕ → Bool
 countOutOfRange count = not (countInRange count)
+
+-- 15 where "a count of 0 passes" (document 02, job 2)
+unfoldable pub countTooLarge : ℕ → Bool
+countTooLarge count = ltb maxCount count
 
 -- 16, "list shorter than the count"
 unfoldable pub listShort : List ℕ → ℕ → Bool

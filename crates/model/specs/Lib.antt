@@ -1,4 +1,4 @@
--- What is promised: every rule of document 01 as a definition that computes.
+-- What is promised: every rule of document 01, and of the jobs of document 02 that have landed, as a definition that computes.
 pub mod Types
 pub mod Sizes
 pub mod First
@@ -10,6 +10,7 @@ pub mod Disk
 pub mod Causes
 pub mod Calls
 pub mod FourCounts
+pub mod CostKept
 pub mod Completion
 pub mod Outcome
 pub mod Line

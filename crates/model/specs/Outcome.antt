@@ -15,8 +15,9 @@ use Rattle.model.specs.Calls.Committing.{commitAnswer, commitMemory}
 use Rattle.model.specs.Calls.Rollback.{rollbackAnswer, rollbackMemory}
 use Rattle.model.specs.Calls.Storing.{storeAnswer, storeMemory, storeDisk}
 use Rattle.model.specs.Calls.Status.{statusAnswer}
+use Rattle.model.specs.Calls.CommitCost.{commitCostAnswer}
 
--- the calls of demand 3 (open, start, ..), with a crash (document 01: a cut) among them
+-- the calls of demand 3 (open, start, ..), with a crash (document 01: a cut) among them, and those that document 02 adds
 pub data Call : Type 0 where
   openCall : Call
   startCall : ℕ → Call
@@ -27,6 +28,7 @@ pub data Call : Type 0 where
   rollbackCall : ℕ → Call
   storeCall : Call
   statusCall : Call
+  commitCostCall : ℕ → ℕ → Call
   crashCall : Call
 
 -- what a call gives: the memory and disk after it, its number (0, or the refusal's), its value, and the numbers listed
@@ -65,6 +67,8 @@ outcome storeCall memory disk =
     (storesNumber (storeAnswer memory disk))
     (storesValue (storeAnswer memory disk))
 outcome statusCall memory disk = outcomeOf memory disk (statusNumber (statusAnswer memory)) (statusValue (statusAnswer memory))
+outcome (commitCostCall s count) memory disk =
+    outcomeOf memory disk (storesNumber (commitCostAnswer memory s count)) (storesValue (commitCostAnswer memory s count))
 outcome crashCall memory disk = outcomeOf zeroMemory disk 0 0
 
 -- a format, which stands in no list: the memory stays

@@ -1,4 +1,4 @@
--- Document 01, "Bench readings", P1 to P12, as one table that computes; document 02's nursery as another.
+-- Document 01, "Bench readings", P1 to P12, as one table that computes; document 02's nursery and commit costs as two more.
 -- "m is 4, SAM word 0 is 1, seat 1 takes 1 block, seat 2 takes 2 (document 000, figure 3)."
 use Prim.Native.Nat.{ℕ, _-_}
 use mathlib.Core.Path.{_≡_, refl}
@@ -16,6 +16,7 @@ use Rattle.bitmap.specs.Blocks.{scan, from, allocatedBlocks, isAvailable, avail
 use Rattle.bitmap.specs.Majority.{majority}
 use Rattle.model_types.specs.Answers.{done, granted, due, counted, doneNumber, grantNumber, storesNumber, storesValue}
 use Rattle.model.specs.Calls.Allocate.{allocateError, lowest, taking, allocateAnswer, allocateMemory, allocateList}
+use Rattle.model.specs.Calls.CommitCost.{commitCostError, touchedBlocks, costFor, commitCost, commitCostAnswer}
 use Rattle.model.specs.Calls.Committing.{commitError, committing, commitAnswer, commitMemory}
 use Rattle.model.specs.Calls.Deallocate.{deallocateError, freeing, deallocateAnswer, deallocateMemory}
 use Rattle.model.specs.Calls.Opening.{openError, recoveryDue, recoveryPending, opened, openAnswer, openMemory}
@@ -23,7 +24,7 @@ use Rattle.model.specs.Calls.Precommit.{precommitError, precommitting, precommi
 use Rattle.model.specs.Calls.Start.{startError, started, startAnswer, startMemory}
 use Rattle.model.specs.Calls.Status.{statusError, allocated, activeSlots, counts, statusAnswer}
 use Rattle.model.specs.Calls.Storing.{storeError, stillDue, advanced, nextStored, storeAnswer, storeMemory, storeDisk}
-use Rattle.model.specs.Causes.{memoryInvalid, diskLengthWrong, diskBlocksWrong, diskBitmapWrong, diskLogWrong, diskMismatched, nothingPending, workPending, slotOutOfRange, slotActive, slotInactive, slotPrecommitted, slotNotPrecommitted, countOutOfRange, listShort, available, tooFewAvailable, blockOutOfRange, blockFree, blockFreeing}
+use Rattle.model.specs.Causes.{memoryInvalid, diskLengthWrong, diskBlocksWrong, diskBitmapWrong, diskLogWrong, diskMismatched, nothingPending, workPending, slotOutOfRange, slotActive, slotInactive, slotPrecommitted, slotNotPrecommitted, countOutOfRange, countTooLarge, listShort, available, tooFewAvailable, blockOutOfRange, blockFree, blockFreeing}
 use Rattle.model_types.specs.Pending.{isNothing}
 use Rattle.model.specs.Pending.{storesDone, storesDue, oneMoreDone, finished}
 use Rattle.model.specs.Commit.{committedSam, entriesOf, changedOf, commitDue, refreshed, committed}
@@ -120,15 +121,55 @@ told =
     ∷ (17 ∷ 17 ∷ 0 ∷ [])
     ∷ []
 
-computed : (sameRows readings expected && sameRows nursery told) ≡ true
-unfolding sameRows expected told list sam0 disk0 word0 flat figures readings nursery xor isSet bit wordOf wordsOf bitmapOf noBitsFrom scan from allocatedBlocks isAvailable availableBlocks isAllocating allocatingBlocks isFreeing freeingBlocks isHeld heldBlocks member allBelow majority done granted due counted allocateError lowest taking allocateAnswer allocateMemory allocateList commitError committing commitAnswer commitMemory deallocateError freeing deallocateAnswer deallocateMemory openError recoveryDue recoveryPending opened openAnswer openMemory precommitError precommitting precommitAnswer precommitMemory startError started startAnswer startMemory statusError allocated activeSlots counts statusAnswer storeError stillDue advanced nextStored storeAnswer storeMemory storeDisk memoryInvalid diskLengthWrong diskBlocksWrong diskBitmapWrong diskLogWrong diskMismatched isNothing nothingPending workPending slotOutOfRange slotActive slotInactive slotPrecommitted slotNotPrecommitted countOutOfRange listShort available tooFewAvailable blockOutOfRange blockFree blockFreeing committedSam entriesOf changedOf commitDue refreshed committed lengthIn entriesIn logEntries entriesValid logValid durable dueStores entriesAgree recoveryMatches diskMatches firstOr first unlessRefused touched storesDone storesDue oneMoreDone finished writes changesFrom logStores checkpointWith journalWith checkpointStores commitStores blocksInRange countInRange slotInRange sameWords allSlots slotValid touches touchesAgree isQuiet pendingValid valid
+-- Document 02, job 2: "the answer is 0 if t + n is 0, else 3·(the smaller of t + n and W) + 2". m is 70, so W is 3, and of its
+-- blocks 0 and 33 are allocated. Slot 1 has touched none, then two blocks of one word, or two of two words. What counts of 0, 1,
+-- 2, 3 and 64 cost; the refusals of 65, of slots 8, 0 (idle) and 1 (precommitted), and of 4 blocks where 3 are available; then
+-- what two touched blocks cost, and what their commit answers
+pub costs : List (List ℕ)
+costs =
+    let open1 = startMemory (quietMemory 70 (bitmap (1 ∷ 2 ∷ replicate (bitmapWords - 2) 0)) Nothing) 1 in
+    let taken1 = allocateMemory open1 1 2 list in
+    let freed1 = deallocateMemory (deallocateMemory open1 1 0) 1 33 in
+    let small1 = startMemory (quietMemory 4 sam0 Nothing) 1 in
+    (storesValue (commitCostAnswer open1 1 0)
+    ∷ storesValue (commitCostAnswer open1 1 1)
+    ∷ storesValue (commitCostAnswer open1 1 2)
+    ∷ storesValue (commitCostAnswer open1 1 3)
+    ∷ storesValue (commitCostAnswer open1 1 64)
+    ∷ [])
+    ∷ (storesNumber (commitCostAnswer open1 1 65)
+    ∷ storesNumber (commitCostAnswer open1 8 0)
+    ∷ storesNumber (commitCostAnswer open1 0 0)
+    ∷ storesNumber (commitCostAnswer (precommitMemory open1 1) 1 0)
+    ∷ storesNumber (commitCostAnswer small1 1 4)
+    ∷ [])
+    ∷ (storesValue (commitCostAnswer taken1 1 0) ∷ storesValue (commitAnswer (precommitMemory taken1 1) 1) ∷ [])
+    ∷ (storesValue (commitCostAnswer freed1 1 0) ∷ storesValue (commitAnswer (precommitMemory freed1 1) 1) ∷ [])
+    ∷ []
+
+pub priced : List (List ℕ)
+priced =
+    (0 ∷ 5 ∷ 8 ∷ 11 ∷ 11 ∷ [])
+    ∷ (15 ∷ 10 ∷ 12 ∷ 13 ∷ 17 ∷ [])
+    ∷ (8 ∷ 5 ∷ [])
+    ∷ (8 ∷ 8 ∷ [])
+    ∷ []
+
+computed : (sameRows readings expected && (sameRows nursery told && sameRows costs priced)) ≡ true
+unfolding sameRows expected told priced list sam0 disk0 word0 flat figures readings nursery costs xor isSet bit wordOf wordsOf bitmapOf noBitsFrom scan from allocatedBlocks isAvailable availableBlocks isAllocating allocatingBlocks isFreeing freeingBlocks isHeld heldBlocks member allBelow majority done granted due counted commitCostError touchedBlocks costFor commitCost commitCostAnswer allocateError lowest taking allocateAnswer allocateMemory allocateList commitError committing commitAnswer commitMemory deallocateError freeing deallocateAnswer deallocateMemory openError recoveryDue recoveryPending opened openAnswer openMemory precommitError precommitting precommitAnswer precommitMemory startError started startAnswer startMemory statusError allocated activeSlots counts statusAnswer storeError stillDue advanced nextStored storeAnswer storeMemory storeDisk memoryInvalid diskLengthWrong diskBlocksWrong diskBitmapWrong diskLogWrong diskMismatched isNothing nothingPending workPending slotOutOfRange slotActive slotInactive slotPrecommitted slotNotPrecommitted countOutOfRange countTooLarge listShort available tooFewAvailable blockOutOfRange blockFree blockFreeing committedSam entriesOf changedOf commitDue refreshed committed lengthIn entriesIn logEntries entriesValid logValid durable dueStores entriesAgree recoveryMatches diskMatches firstOr first unlessRefused touched storesDone storesDue oneMoreDone finished writes changesFrom logStores checkpointWith journalWith checkpointStores commitStores blocksInRange countInRange slotInRange sameWords allSlots slotValid touches touchesAgree isQuiet pendingValid valid
 computed = refl
 
+both : (sameRows nursery told && sameRows costs priced) ≡ true
+both = and-second (sameRows readings expected) (sameRows nursery told && sameRows costs priced) computed
+
 pub table : readings ≡ expected
-table = rows-same readings expected (and-first (sameRows readings expected) (sameRows nursery told) computed)
+table = rows-same readings expected (and-first (sameRows readings expected) (sameRows nursery told && sameRows costs priced) computed)
 
 pub four-counts : nursery ≡ told
-four-counts = rows-same nursery told (and-second (sameRows readings expected) (sameRows nursery told) computed)
+four-counts = rows-same nursery told (and-first (sameRows nursery told) (sameRows costs priced) both)
+
+pub commit-costs : costs ≡ priced
+commit-costs = rows-same costs priced (and-second (sameRows nursery told) (sameRows costs priced) both)
 
 -- cause 16, "list shorter than the count": a list as long as the count is not
 pub short-list : (listShort (9 ∷ []) 2 ≡ true) × (listShort (9 ∷ 9 ∷ []) 2 ≡ false)

@@ -20,7 +20,7 @@ pub fn allocate(memory: &mut Memory, slot: u32, count: u32, list: &mut [u32]) ->
 }
 
 /// The blocks with SAM 0 and COM 0 of a valid memory, whose bitmaps have no bit from m on.
-fn available_blocks(memory: &Memory) -> u32 {
+pub(super) fn available_blocks(memory: &Memory) -> u32 {
     let words = memory.sam.words.iter().zip(&memory.com.words);
     let used: u32 = words.map(|(sam, com)| (sam | com).count_ones()).sum();
     memory.blocks - used

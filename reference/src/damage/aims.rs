@@ -1,6 +1,7 @@
-//! What is aimed at: each cause for each call that document 01's table names with it, and calls of
-//! transactions and statuses that are accepted.
+//! What is aimed at: each cause for each call that document 01's table names with it or that
+//! document 02 gives it, and calls of transactions, statuses and commit costs that are accepted.
 
+use super::Damage;
 use crate::error::Error;
 use crate::line::Operation;
 
@@ -8,7 +9,14 @@ use crate::line::Operation;
 #[derive(Clone, Copy, PartialEq, Eq, Debug)]
 pub struct Aim {
     pub error: Option<Error>,
-    pub operation: Operation,
+    pub call: Call,
+}
+
+/// A call that a bench line makes, or commit cost, which has a test line alone.
+#[derive(Clone, Copy, PartialEq, Eq, Debug)]
+pub enum Call {
+    Bench(Operation),
+    Cost,
 }
 
 /// The six transaction calls. The last five are all but start.
@@ -33,7 +41,7 @@ const CAUSES: [(Error, &[Operation], usize); 22] = [
     (Error::DiskBlockCount, &[Operation::Open], 1),
     (Error::DiskBitmap, &[Operation::Open], 2),
     (Error::DiskLog, &[Operation::Open], 3),
-    (Error::DiskMismatch, &[Operation::Store], 6),
+    (Error::DiskMismatch, &[Operation::Store], 5),
     (Error::BlockCount, &[Operation::Format], 1),
     (Error::WorkPending, &SIX, 1),
     (Error::NothingPending, &[Operation::Store], 1),
@@ -42,13 +50,26 @@ const CAUSES: [(Error, &[Operation], usize); 22] = [
     (Error::SlotIdle, FIVE, 1),
     (Error::SlotPrecommitted, THREE, 1),
     (Error::SlotNotPrecommitted, &[Operation::Commit], 1),
-    (Error::Count, &[Operation::Allocate], 1),
+    (Error::Count, &[Operation::Allocate], 2),
     (Error::ListLength, &[Operation::Allocate], 1),
     (Error::TooFewAvailable, &[Operation::Allocate], 1),
     (Error::BlockNumber, &[Operation::Deallocate], 1),
     (Error::BlockNotAllocated, &[Operation::Deallocate], 1),
     (Error::BlockAlreadyFreed, &[Operation::Deallocate], 1),
 ];
+
+/// The causes of commit cost, allocate's but for the list's length, and how often each is to be
+/// reached in a round. Those that all six have are also met beside their calls.
+const COST_CAUSES: [(Error, usize); 7] = [
+    (Error::InvalidMemory, 1),
+    (Error::WorkPending, 1),
+    (Error::SlotNumber, 1),
+    (Error::SlotIdle, 1),
+    (Error::SlotPrecommitted, 2),
+    (Error::Count, 2),
+    (Error::TooFewAvailable, 2),
+];
+const ACCEPTED_COSTS: usize = 2;
 
 impl Aim {
     /// The aims of one round.
@@ -58,18 +79,54 @@ impl Aim {
         for (error, operations, times) in CAUSES {
             aims.extend(aims_of(Some(error), operations, times));
         }
+        aims.extend(vec![Aim { error: None, call: Call::Cost }; ACCEPTED_COSTS]);
+        for (error, times) in COST_CAUSES {
+            aims.extend(vec![Aim { error: Some(error), call: Call::Cost }; times]);
+        }
         aims
     }
 
-    /// Whether the call is one of the six, which don't look at the disk.
+    /// Whether work is to be pending at the call.
+    pub fn needs_work(&self) -> bool {
+        matches!(self.error, Some(Error::WorkPending | Error::DiskMismatch))
+    }
+
+    /// Whether the call is one of the six or commit cost, which don't look at the disk.
     pub fn is_of_a_transaction(&self) -> bool {
-        SIX.contains(&self.operation)
+        match self.call {
+            Call::Bench(operation) => SIX.contains(&operation),
+            Call::Cost => true,
+        }
     }
 }
 
 /// These operations, each this many times.
 fn aims_of(error: Option<Error>, operations: &[Operation], times: usize) -> Vec<Aim> {
-    let aims: Vec<Aim> =
-        operations.iter().map(|operation| Aim { error, operation: *operation }).collect();
-    aims.repeat(times)
+    let aim = |operation: &Operation| Aim { error, call: Call::Bench(*operation) };
+    operations.iter().map(aim).collect::<Vec<Aim>>().repeat(times)
+}
+
+impl Damage {
+    /// One of the aims still to be reached in this round. While work is pending it is often one
+    /// that needs that, at rest one that doesn't.
+    pub(super) fn choose_aim(&mut self) -> Aim {
+        if self.aims.is_empty() {
+            self.aims = Aim::all();
+        }
+        let in_work = self.stores_left() > 0;
+        let fits = |aim: &Aim| aim.needs_work() == in_work;
+        let fitting: Vec<Aim> = self.aims.iter().copied().filter(fits).collect();
+        if !fitting.is_empty() && self.random.one_in(2) {
+            self.random.choose(&fitting)
+        } else {
+            self.random.choose(&self.aims)
+        }
+    }
+
+    /// Takes out an aim that was reached, if it was still to be.
+    pub(super) fn strike_off(&mut self, reached: Aim) {
+        if let Some(index) = self.aims.iter().position(|aim| *aim == reached) {
+            self.aims.swap_remove(index);
+        }
+    }
 }

@@ -1,7 +1,6 @@
 //! Counts for allocates, as the available blocks and the list's places allow or not.
 
 use super::Damage;
-use crate::bitmap::Bitmap;
 use crate::calls::MAX_COUNT;
 use crate::line::Operation;
 use crate::test_line::TestLine;
@@ -31,8 +30,11 @@ impl Damage {
     }
 
     /// Makes the list long enough and gives a count with too few blocks available, or now and then
-    /// just enough.
+    /// just enough. It is nothing if too many are available.
     pub(super) fn leave_few_available(&mut self, slot: u32) -> Option<u32> {
+        if self.available() >= (MOST_ALLOCATES + 1) * MAX_COUNT {
+            return None;
+        }
         self.lengthen_list();
         for _ in 0..MOST_ALLOCATES {
             if self.available() >= MAX_COUNT {
@@ -57,7 +59,6 @@ impl Damage {
 
     /// The number of blocks with SAM 0 and COM 0.
     pub(super) fn available(&self) -> u32 {
-        let memory = &self.state.memory;
-        (0..Bitmap::WORDS).map(|word| memory.available_in(word).count_ones()).sum()
+        self.state.memory.available()
     }
 }

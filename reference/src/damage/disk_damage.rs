@@ -13,7 +13,7 @@ use crate::test_line::TestLine;
 const NEAR_LENGTHS: [u32; 4] = [385, 387, 385, 400];
 const SHORT_LENGTHS: [u32; 5] = [0, 0, 1, 129, 130];
 /// A disk with more words than these isn't cut to a short one, for mending takes a line for each.
-const MOST_WORDS_LOST: usize = 30;
+const MOST_WORDS_LOST: usize = 15;
 const WRONG_BLOCK_COUNTS: [u32; 6] = [0, 4097, 4128, 65_537, 1 << 31, u32::MAX];
 
 impl Damage {

@@ -9,7 +9,7 @@ use crate::line::Line;
 use crate::test_line::TestLine;
 
 const MOST_LINES: u32 = 3;
-const WRONG_LINES: [&str; 22] = [
+const WRONG_LINES: [&str; 36] = [
     "show ",
     " show",
     "show 0",
@@ -20,6 +20,20 @@ const WRONG_LINES: [&str; 22] = [
     "Status",
     "statu",
     "status\r",
+    "cost",
+    "cost ",
+    "cost 0",
+    "cost 0 ",
+    "cost 0 1 ",
+    " cost 0 1",
+    "cost  0 1",
+    "cost 0  1",
+    "cost 0 1 2",
+    "Cost 0 1",
+    "cost 00000000000 1",
+    "cost 0 00000000001",
+    "cost 0 4294967296",
+    "op=cost seat=0 n=1",
     "disk 2",
     "disk 2 4294967296",
     "disk 00000000002 5",
@@ -38,10 +52,10 @@ impl Damage {
     /// A few lines that get 21. Some with a byte changed may be in form all the same.
     pub(super) fn put_malformed(&mut self) {
         for _ in 0..=self.random.below(MOST_LINES) {
-            let bytes = match self.random.below(4) {
+            let bytes = match self.random.below(5) {
                 0 => self.malformed_bench_line(),
-                1 => self.random.choose(&WRONG_LINES).as_bytes().to_vec(),
-                2 => {
+                1 | 2 => self.random.choose(&WRONG_LINES).as_bytes().to_vec(),
+                3 => {
                     let line = self.line_out_of_range();
                     text::bytes(&mut self.random, &line)
                 }
@@ -84,6 +98,7 @@ impl Damage {
             TestLine::Tam { slot, index, word },
             TestLine::State { slot, code: 1 },
             TestLine::Pending { codes: [1, slot, 0, index] },
+            TestLine::Cost { slot, count: index },
         ]);
         let bytes = text::bytes(&mut self.random, &line);
         let random = &mut self.random;

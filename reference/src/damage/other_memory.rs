@@ -8,7 +8,10 @@ use crate::test_line::TestLine;
 const MOST_SLOTS: u32 = 4;
 const MOST_TOUCHES: u32 = 2;
 const MOST_CHANGES: u32 = 3;
+/// A volume with fewer blocks can't have one of each of the four kinds that status counts.
+const LEAST_BLOCKS: u32 = 4;
 const STATUS_IN: u32 = 2;
+const COST_IN: u32 = 3;
 
 impl Damage {
     /// Some transactions touch blocks. Then the memory is changed so that it stays valid, though
@@ -16,8 +19,10 @@ impl Damage {
     pub(super) fn make_other_memory(&mut self) -> Option<()> {
         self.come_to_rest()?;
         self.touch_in_some_slots();
+        self.status_one_in(STATUS_IN);
         for _ in 0..self.random.below(MOST_CHANGES + 1) {
             match self.random.below(4) {
+                _ if self.state.memory.blocks < LEAST_BLOCKS => self.move_the_end(),
                 0 => {
                     let block = self.volume_block();
                     self.flip_everywhere(block);
@@ -25,7 +30,8 @@ impl Damage {
                 1 => self.move_the_end(),
                 _ => self.replace_a_word_everywhere(),
             }
-            self.status_one_in(STATUS_IN);
+            self.alter(TestLine::Status);
+            self.cost_one_in(COST_IN);
         }
         Some(())
     }
@@ -56,14 +62,23 @@ impl Damage {
         let words = Bitmap::words_for(self.state.memory.blocks);
         let index = self.random.below(words);
         let bits = Bitmap::volume_bits(self.state.memory.blocks, index as usize);
-        let sam = self.any_word() & bits;
+        let sam = self.some_of(bits);
         let mut untouched = bits;
         self.alter(TestLine::Sam { index, word: sam });
         for slot in self.active_slots() {
-            let touched = self.any_word() & untouched;
+            let touched = self.some_of(untouched);
             untouched ^= touched;
             self.alter(TestLine::Tam { slot, index, word: sam ^ touched });
         }
         self.alter(TestLine::Com { index, word: sam ^ bits ^ untouched });
+    }
+
+    /// Some of these bits, mostly about half of them.
+    fn some_of(&mut self, bits: u32) -> u32 {
+        let word = match self.random.below(3) {
+            0 => self.any_word(),
+            _ => self.random.number() as u32,
+        };
+        word & bits
     }
 }

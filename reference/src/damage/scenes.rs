@@ -1,21 +1,23 @@
 //! What has to be brought about before a call is accepted, or refused for a wanted cause.
 
-use super::{Aim, Damage};
+use super::aims::{Aim, Call};
+use super::Damage;
 use crate::error::Error;
 use crate::line::Operation;
 use crate::memory::{Memory, SlotState};
 
 const CRASH_IN: u32 = 10;
 const FOREIGN_DISK_IN: u32 = 6;
-const MISMATCH_AT_REST_IN: u32 = 5;
+const MISMATCH_AT_REST_IN: u32 = 4;
 
 impl Damage {
     /// Brings it about, from a sound state, and gives the call's slot and number. It is nothing if
     /// that can't be done from here, and now and then the call is accepted all the same.
     pub(super) fn prepare(&mut self, aim: Aim) -> Option<(u32, u32)> {
-        let arguments = match aim.error {
-            None => self.prepare_acceptance(aim.operation)?,
-            Some(error) => self.prepare_refusal(error, aim.operation)?,
+        let arguments = match (aim.call, aim.error) {
+            (Call::Cost, error) => self.prepare_cost(error)?,
+            (Call::Bench(operation), None) => self.prepare_acceptance(operation)?,
+            (Call::Bench(operation), Some(error)) => self.prepare_refusal(error, operation)?,
         };
         if aim.is_of_a_transaction() && self.random.one_in(FOREIGN_DISK_IN) {
             self.damage_unread_disk();
@@ -42,7 +44,11 @@ impl Damage {
         }
     }
 
-    fn prepare_refusal(&mut self, error: Error, operation: Operation) -> Option<(u32, u32)> {
+    pub(super) fn prepare_refusal(
+        &mut self,
+        error: Error,
+        operation: Operation,
+    ) -> Option<(u32, u32)> {
         match error {
             Error::InvalidMemory
             | Error::DiskLength

@@ -44,6 +44,7 @@ impl Damage {
         self.call(Operation::Store, 0, 0);
         self.show_one_in(2);
         self.status_one_in(3);
+        self.cost_one_in(6);
         if !is_sound(&self.state) {
             self.mend_words(MOST_MEMORY_LINES);
         }

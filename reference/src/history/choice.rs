@@ -157,9 +157,7 @@ impl History {
     /// An allocate or a deallocate, whichever the phase wants and the volume has blocks for.
     fn choose_touch(&mut self, slot: u32) -> Line {
         let Memory { sam, com, .. } = self.bench.memory;
-        let memory = &self.bench.memory;
-        let available: u32 =
-            (0..Bitmap::WORDS).map(|word| memory.available_in(word).count_ones()).sum();
+        let available = self.bench.memory.available();
         let wants_free = self.random.below(100) < self.phase.free_percent;
         let block = self.choose_block(&and_words(&sam, &com));
         match block {

@@ -3,7 +3,8 @@
 use reference::bench::Bench;
 use reference::history::{History, Shape};
 use reference::line::{parse, Line, Operation};
-use reference::{open, store, Call, Error, Ledger, Memory, BITMAP_START, LOG_START};
+use reference::test_line::{self, TestLine};
+use reference::{commit_cost, open, store, Call, Error, Ledger, Memory, BITMAP_START, LOG_START};
 
 /// How an allocator takes a line in form.
 pub type Step = fn(&mut Bench, &Line) -> Result<u32, Error>;
@@ -16,12 +17,25 @@ pub fn history(seed: u64) -> History {
 
 /// What the comparison finds wrong in the first lines of a history, if anything.
 pub fn fault_in_history(seed: u64, lines: usize, step: Step) -> Option<&'static str> {
+    fault_in_lines(history(seed).take(lines), step)
+}
+
+/// What it finds wrong in bench lines in form and `cost` lines. These are calls too, of which the
+/// ledger is told nothing.
+pub fn fault_in_lines(
+    mut lines: impl Iterator<Item = Vec<u8>>,
+    step: Step,
+) -> Option<&'static str> {
     let mut bench = Bench::new();
     let mut ledger = Ledger::new();
-    history(seed).take(lines).find_map(|line| {
-        let line = parse(&line).unwrap();
-        let answer = step(&mut bench, &line);
-        record(&mut ledger, &line, answer, &bench.list);
+    lines.find_map(|line| {
+        if let Some(TestLine::Cost { slot, count }) = test_line::parse(&line) {
+            let _ = commit_cost(&bench.memory, slot, count);
+        } else {
+            let line = parse(&line).unwrap();
+            let answer = step(&mut bench, &line);
+            record(&mut ledger, &line, answer, &bench.list);
+        }
         fault(&bench, &ledger).or_else(|| invalid_memory(&bench))
     })
 }

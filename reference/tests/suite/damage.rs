@@ -27,7 +27,11 @@ const CALLS: [&str; 20] = [
     "free",
 ];
 
-/// Every call that a cause names is refused for it this often, and no other call.
+/// The causes of commit cost.
+const COST_CAUSES: [usize; 7] = [1, 8, 10, 12, 13, 15, 17];
+
+/// Every call that a cause names is refused for it this often, commit cost twice as often, and no
+/// other call.
 fn assert_reached(seed: u64, lines: usize, least: u32) {
     let seen = observe(seed, lines);
     for (code, calls) in (1..).zip(CALLS) {
@@ -39,6 +43,11 @@ fn assert_reached(seed: u64, lines: usize, least: u32) {
         }
     }
     assert!(seen.not_in_form + seen.out_of_range >= least, "cause 21 in seed {seed}");
+    println!("seed {seed}: {:?}", seen.costs.answers);
+    for (code, times) in seen.costs.answers.into_iter().enumerate().skip(1) {
+        let right = if COST_CAUSES.contains(&code) { times >= 2 * least } else { times == 0 };
+        assert!(right, "cost gets {code} {times} times in seed {seed}");
+    }
 }
 
 #[test]
@@ -80,4 +89,19 @@ fn status_lines_stand_in_states_of_many_kinds() {
     assert!(seen.with_all >= 350 && seen.busy >= 300);
     assert!(seen.altered >= 300 && seen.altered_with_all >= 100);
     assert!(seen.in_work >= 700);
+}
+
+#[test]
+fn cost_lines_stand_in_states_of_many_kinds() {
+    for seed in 0..8 {
+        let seen = observe(seed, 3000).costs;
+        assert!(seen.answers[0] >= 20 && seen.altered >= 5, "seed {seed}: {seen:?}");
+        assert!(seen.busy >= 10 && seen.several_causes >= 30, "seed {seed}: {seen:?}");
+    }
+    let seen = observe(9, 60_000).costs;
+    println!("{seen:?}");
+    assert!(seen.answers[0] >= 500 && seen.several_causes >= 800 && seen.not_in_form >= 100);
+    assert!(seen.by_touched.iter().all(|times| *times >= 20));
+    assert!(seen.busy >= 350 && seen.altered >= 150);
+    assert!(seen.short_lists >= 25 && seen.foreign_disks >= 150);
 }

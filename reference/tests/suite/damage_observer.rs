@@ -1,5 +1,6 @@
 //! What a damaging sequence does: it is run, checked and counted.
 
+use crate::cost_observer::SeenCosts;
 use crate::status_observer::{check_status, SeenStatuses};
 use reference::damage::Damage;
 use reference::inspector::Inspector;
@@ -42,6 +43,7 @@ pub struct Seen {
     /// Refused with cause 16: an empty list.
     pub empty_lists: u32,
     pub statuses: SeenStatuses,
+    pub costs: SeenCosts,
 }
 
 /// Runs a sequence and checks that refused lines leave all as it was.
@@ -67,16 +69,9 @@ pub fn observe(seed: u64, lines: usize) -> Seen {
                 seen.refused[error.code() as usize][line.operation as usize] += 1;
                 seen.count_refused(&before, error);
             }
-            (None, answer) if test_line::parse(&line) == Some(TestLine::Status) => {
-                assert_eq!(inspector, before);
-                check_status(&before.memory, answer, &more);
-                let altered = before.memory != memory_after_call;
-                seen.statuses.count(&before.memory, altered);
-            }
             (None, answer) => {
-                seen.count_test_line(&line, answer.is_ok());
-                assert!(answer == Ok(0) || answer == Err(Error::MalformedLine));
-                assert!(answer.is_ok() || inspector == before);
+                let altered = before.memory != memory_after_call;
+                seen.count_test_line(&line, &before, &inspector, (answer, &more), altered);
             }
         }
     }
@@ -84,17 +79,44 @@ pub fn observe(seed: u64, lines: usize) -> Seen {
 }
 
 impl Seen {
-    fn count_test_line(&mut self, line: &[u8], accepted: bool) {
+    /// Counts a line that isn't a bench line, with its answer and what it printed behind it. Test
+    /// lines have altered the memory since the last call or not.
+    fn count_test_line(
+        &mut self,
+        line: &[u8],
+        before: &Inspector,
+        after: &Inspector,
+        (answer, more): (Result<u32, Error>, &str),
+        altered: bool,
+    ) {
         match test_line::parse(line) {
-            Some(TestLine::Show) => self.shows += 1,
-            Some(_) => self.out_of_range += u32::from(!accepted),
-            None => {
-                self.not_in_form += 1;
-                let text = line.to_ascii_lowercase();
-                let almost = text.trim_ascii().starts_with(b"statu");
-                self.statuses.not_in_form += u32::from(almost);
+            Some(TestLine::Status) => {
+                assert_eq!(after, before);
+                check_status(&before.memory, answer, more);
+                self.statuses.count(&before.memory, altered);
+            }
+            Some(TestLine::Cost { slot, count }) => {
+                assert_eq!((after, more), (before, ""));
+                self.costs.count(before, (slot, count), answer, altered);
+            }
+            other => {
+                assert!(answer == Ok(0) || answer == Err(Error::MalformedLine));
+                assert!(answer.is_ok() || after == before);
+                match other {
+                    Some(TestLine::Show) => self.shows += 1,
+                    Some(_) => self.out_of_range += u32::from(answer.is_err()),
+                    None => self.count_not_in_form(line),
+                }
             }
         }
+    }
+
+    fn count_not_in_form(&mut self, line: &[u8]) {
+        self.not_in_form += 1;
+        let text = line.to_ascii_lowercase();
+        let almost = |word: &[u8]| u32::from(text.trim_ascii().starts_with(word));
+        self.statuses.not_in_form += almost(b"statu");
+        self.costs.not_in_form += almost(b"cost");
     }
 
     fn count_accepted(

@@ -83,12 +83,25 @@ fn the_options_of_a_history_stand_in_any_order() {
     assert!(status.matches("\nstatus\n").count() > 100);
     assert_eq!(without_status(status), plain);
     assert_eq!(both, print(&["--malformed", "--status"]));
-    assert_eq!(without_status(both), malformed);
+    assert_eq!(without_status(both.clone()), malformed);
+    let without_cost = |history: String| {
+        let others = history.split_inclusive('\n').filter(|line| !line.starts_with("cost "));
+        others.collect::<String>()
+    };
+    let cost = print(&["--cost"]);
+    assert!(cost.matches("\ncost ").count() > 50);
+    assert_eq!(without_cost(cost), plain);
+    assert_eq!(without_cost(print(&["--malformed", "--cost"])), malformed);
+    let all = print(&["--cost", "--malformed", "--status"]);
+    assert_eq!(all, print(&["--status", "--malformed", "--cost"]));
+    assert_eq!(all, print(&["--malformed", "--cost", "--status"]));
+    assert_eq!(without_cost(all), both);
 }
 
 #[test]
 fn the_program_inspects() {
-    let output = run_program(&["inspect"], &format!("{INPUT}list 1\nshow\nop=stat seat=0 n=0"));
+    let output =
+        run_program(&["inspect"], &format!("{INPUT}list 1\nshow\nop=stat seat=0 n=0\ncost 0 0"));
     assert!(output.status.success());
     let output = String::from_utf8(output.stdout).unwrap();
     let shown = "call=13 answer=0 value=0
@@ -108,13 +121,14 @@ slot 7 state=0
 disk length=386 0:4 1:1 131:3
 list length=1 0
 call=15 answer=0 value=2
+call=16 answer=8 value=0
 ";
     assert_eq!(output, format!("{OUTPUT}{shown}"));
 }
 
 #[test]
 fn the_program_refuses_other_arguments() {
-    let cases: [&[&str]; 12] = [
+    let cases: [&[&str]; 15] = [
         &[],
         &["benches"],
         &["history", "1", "2"],
@@ -122,7 +136,10 @@ fn the_program_refuses_other_arguments() {
         &["history", "1", "2", "-1"],
         &["history", "1", "2", "3", "--deformed"],
         &["history", "1", "2", "3", "--status", "--status"],
+        &["history", "1", "2", "3", "--cost", "--status", "--cost"],
+        &["history", "1", "2", "3", "--cost", "--costs"],
         &["history", "1", "2", "--status"],
+        &["history", "1", "2", "--cost"],
         &["inspect", "1"],
         &["sweep", "1"],
         &["damage", "1"],

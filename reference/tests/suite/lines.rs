@@ -2,7 +2,7 @@
 
 use reference::line::{parse, Line, Operation};
 
-const NOT_IN_FORM: [&[u8]; 46] = [
+const NOT_IN_FORM: [&[u8]; 48] = [
     b"",
     b" ",
     b"op=open",
@@ -46,6 +46,8 @@ const NOT_IN_FORM: [&[u8]; 46] = [
     b"op=opens seat=0 n=0",
     b"op=allocate seat=0 n=0",
     b"op=cut1 seat=0 n=0",
+    b"op=cost seat=0 n=0",
+    b"cost 0 0",
     b"op=open slot=0 n=0",
     b"op=open seat=0 N=0",
     b"\xef\xbb\xbfop=open seat=0 n=0",

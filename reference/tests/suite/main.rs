@@ -1,8 +1,16 @@
-//! The tests of the reference allocator, against document 01.
+//! The tests of the reference allocator, against documents 01 and 02.
 
 mod agreement;
 mod causes;
+mod chains;
+mod commit_cost;
 mod comparison;
+mod cost_causes;
+mod cost_histories;
+mod cost_line;
+mod cost_observer;
+mod cost_promise;
+mod costs;
 mod counts;
 mod crashes;
 mod damage;

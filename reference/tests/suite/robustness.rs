@@ -1,20 +1,21 @@
 //! Any memory, any disk, any list, any number: no call panics, a refused call leaves all as it was,
 //! and an accepted one leaves a valid memory.
 
+use crate::costs::cost_by_blocks;
 use crate::counts::counts_by_blocks;
 use crate::state::{State, UNWRITTEN};
 use reference::bench::Bench;
 use reference::history::{History, Shape};
 use reference::{
-    allocate, commit, deallocate, format, open, precommit, rollback, start, status, store, Bitmap,
-    Error, Memory, Pending, Random, Slot, SlotState, DISK_WORDS,
+    allocate, commit, commit_cost, deallocate, format, open, precommit, rollback, start, status,
+    store, Bitmap, Error, Memory, Pending, Random, Slot, SlotState, DISK_WORDS,
 };
 
 const NUMBERS: [u32; 14] = [0, 1, 2, 3, 7, 8, 31, 64, 65, 128, 129, 4096, u32::MAX - 1, u32::MAX];
 
 type AnyCall = fn(&mut State, u32, u32) -> Result<u32, Error>;
 
-const CALLS: [AnyCall; 10] = [
+const CALLS: [AnyCall; 11] = [
     |s, _, number| format(&mut s.disk, number).map(|()| 0),
     |s, _, _| {
         let opened = open(&s.disk);
@@ -35,6 +36,11 @@ const CALLS: [AnyCall; 10] = [
         let counts = status(&s.memory)?;
         assert_eq!(counts, counts_by_blocks(&s.memory));
         Ok(counts.active)
+    },
+    |s, slot, number| {
+        let answer = commit_cost(&s.memory, slot, number);
+        assert_eq!(answer, cost_by_blocks(&s.memory, slot, number));
+        answer
     },
 ];
 

@@ -4,7 +4,7 @@ use reference::inspector::Inspector;
 use reference::test_line::{parse, TestLine};
 use reference::{Error, Memory, Pending, SlotState};
 
-const IN_FORM: [(&str, TestLine); 15] = [
+const IN_FORM: [(&str, TestLine); 18] = [
     ("disk 0 0", TestLine::Disk { index: 0, word: 0 }),
     ("disk 385 4294967295", TestLine::Disk { index: 385, word: u32::MAX }),
     ("disk 0000000007 0000000009", TestLine::Disk { index: 7, word: 9 }),
@@ -18,11 +18,14 @@ const IN_FORM: [(&str, TestLine); 15] = [
     ("pending 1 2 3 4", TestLine::Pending { codes: [1, 2, 3, 4] }),
     ("pending 0 0 0 0", TestLine::Pending { codes: [0; 4] }),
     ("list 64", TestLine::List { places: 64 }),
+    ("cost 7 64", TestLine::Cost { slot: 7, count: 64 }),
+    ("cost 4294967295 4294967295", TestLine::Cost { slot: u32::MAX, count: u32::MAX }),
+    ("cost 0000000003 0000000000", TestLine::Cost { slot: 3, count: 0 }),
     ("show", TestLine::Show),
     ("status", TestLine::Status),
 ];
 
-const NOT_IN_FORM: [&[u8]; 54] = [
+const NOT_IN_FORM: [&[u8]; 62] = [
     b"",
     b" ",
     b"show ",
@@ -46,6 +49,14 @@ const NOT_IN_FORM: [&[u8]; 54] = [
     b"status\t",
     b"status=",
     b"op=status seat=0 n=0",
+    b"cost",
+    b"cost 0",
+    b"cost 0 ",
+    b"cost 0 0 ",
+    b"cost 0 0 0",
+    b"cost  0 0",
+    b"cost 0 4294967296",
+    b"op=cost seat=0 n=0",
     b"disk",
     b"disk ",
     b"disk 1",

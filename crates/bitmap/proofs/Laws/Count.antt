@@ -1,13 +1,15 @@
 -- How many blocks a scan finds, and the blocks of a volume by their bits in SAM and COM.
-use Prim.Native.Nat.{ℕ, zero, suc, _+_, _-_, _≤_}
+use Prim.Native.Nat.{ℕ, zero, suc, _+_, _-_, _≤_, _<_}
 use native.Mathlib.Nat.{zero-add, add-zero, add-suc, suc-add, sub-zero, le-refl}
 use native.Mathlib.Omega.{arith}
 use mathlib.Core.Path.{_≡_, refl, ap, _∙_}
-use mathlib.Core.Bool.{Bool, true, false, not, cond, _&&_}
+use mathlib.Core.Bool.{Bool, true, false, not, cond, _&&_, _||_}
 use mathlib.Core.List.{List, [], _∷_}
 use lib.ListN.{length}
+use lib.Dec.{eqb}
+use borrow.Author.Tests.{eqb-true, ne-eqb}
 use Rattle.bitmap.specs.Bits.{bit}
-use Rattle.bitmap.specs.Blocks.{scan, from, allocatedBlocks, isAvailable, availableBlocks, isAllocating, allocatingBlocks, isFreeing, freeingBlocks, isHeld, heldBlocks}
+use Rattle.bitmap.specs.Blocks.{scan, from, allocatedBlocks, isAvailable, availableBlocks, isAllocating, allocatingBlocks, isFreeing, freeingBlocks, isHeld, heldBlocks, member}
 use Rattle.bitmap.proofs.Laws.Blocks.{from-skip, from-end}
 
 -- ---- a scan in parts
@@ -57,6 +59,101 @@ count-split test side p (suc n) =
     go true true = refl
     go true false = refl
     go false s = refl
+
+-- and one that holds nowhere finds none
+count-none : (p n : ℕ) → length (scan (λ b. false) p n) ≤ 0
+count-none p zero = omega (arith, count-zero (λ b. false) p)
+count-none p (suc n) = omega (arith, count-suc (λ b. false) p n, count-none (suc p) n)
+
+-- a test that holds at one of them finds one
+count-found : (test : ℕ → Bool) (p n i : ℕ) → i < n → test (p + i) ≡ true → 1 ≤ length (scan test p n)
+count-found test p n i l e =
+    let all : i + suc (n - suc i) ≡ n = omega arith in
+    omega (
+      arith,
+      ap (λ (k : ℕ). length (scan test p k)) all,
+      count-add test p i (suc (n - suc i)),
+      count-suc test (p + i) (n - suc i),
+      ap {B = ℕ} (λ (t : Bool). cond t 1 0) e,
+    )
+
+-- where a test holds at no more blocks than two others together, it finds no more than both
+count-both : (test one two : ℕ → Bool) (p n : ℕ)
+    → ((b : ℕ) → p ≤ b → b < p + n → cond (test b) 1 0 ≤ cond (one b) 1 0 + cond (two b) 1 0)
+    → length (scan test p n) ≤ length (scan one p n) + length (scan two p n)
+count-both test one two p zero few = omega (arith, count-zero test p)
+count-both test one two p (suc n) few =
+    omega (
+      arith,
+      count-suc test p n,
+      count-suc one p n,
+      count-suc two p n,
+      few p (le-refl p) (omega arith),
+      count-both test one two (suc p) n (λ b l h. few b (omega arith) (omega arith)),
+    )
+
+-- one block is found once: not after it, and not twice
+count-after : (x p n : ℕ) → x < p → length (scan (λ b. eqb b x) p n) ≡ 0
+count-after x p zero h = count-zero (λ b. eqb b x) p
+count-after x p (suc n) h =
+    omega (
+      arith,
+      count-suc (λ b. eqb b x) p n,
+      ap {B = ℕ} (λ (t : Bool). cond t 1 0) (ne-eqb p x (λ e. omega (arith, e))),
+      count-after x (suc p) n (omega arith),
+    )
+
+count-once : (x p n : ℕ) → length (scan (λ b. eqb b x) p n) ≤ 1
+count-once x p zero = omega (arith, count-zero (λ b. eqb b x) p)
+count-once x p (suc n) = go (eqb p x) refl (count-once x (suc p) n)
+  where
+    go : (t : Bool) → eqb p x ≡ t → length (scan (λ b. eqb b x) (suc p) n) ≤ 1 → length (scan (λ b. eqb b x) p (suc n)) ≤ 1
+    go true e later =
+        omega (
+          arith,
+          count-suc (λ b. eqb b x) p n,
+          ap {B = ℕ} (λ (u : Bool). cond u 1 0) e,
+          count-after x (suc p) n (omega (arith, eqb-true p x e)),
+        )
+    go false e later = omega (arith, count-suc (λ b. eqb b x) p n, ap {B = ℕ} (λ (u : Bool). cond u 1 0) e)
+
+-- those of a list are no more than its length
+count-member : (xs : List ℕ) (p n : ℕ) → length (scan (λ b. member b xs) p n) ≤ length xs
+unfolding member
+count-member [] p n = count-none p n
+count-member (x ∷ xs) p n =
+    omega (
+      arith,
+      count-both (λ b. eqb b x || member b xs) (λ b. eqb b x) (λ b. member b xs) p n (λ b l h. go (eqb b x) (member b xs)),
+      count-once x p n,
+      count-member xs p n,
+    )
+  where
+    go : (t u : Bool) → cond (t || u) 1 0 ≤ cond t 1 0 + cond u 1 0
+    go true u = omega arith
+    go false u = omega arith
+
+-- where a test holds only at blocks of a list and where another does, it finds no more than both
+pub count-more : (test old : ℕ → Bool) (xs : List ℕ) (m : ℕ)
+    → ((b : ℕ) → b < m → cond (test b) 1 0 ≤ cond (member b xs) 1 0 + cond (old b) 1 0)
+    → length (from test m 0) ≤ length (from old m 0) + length xs
+unfolding from
+count-more test old xs m few =
+    rw (sub-zero m)
+    (omega (arith, count-both test (λ b. member b xs) old 0 m (λ b l h. few b (omega (arith, h))), count-member xs 0 m))
+
+-- a scan in two parts, of which the first finds something if the test holds there
+pub count-later : (test : ℕ → Bool) (m p n : ℕ) → p + n ≤ m → length (from test m (p + n)) ≤ length (from test m p)
+unfolding from
+count-later test m p n h =
+    let all : n + (m - (p + n)) ≡ m - p = omega arith in
+    omega (arith, count-add test p n (m - (p + n)), ap (λ (k : ℕ). length (scan test p k)) all)
+
+pub count-here : (test : ℕ → Bool) (m p n i : ℕ) → p + n ≤ m → i < n → test (p + i) ≡ true → 1 + length (from test m (p + n)) ≤ length (from test m p)
+unfolding from
+count-here test m p n i h l e =
+    let all : n + (m - (p + n)) ≡ m - p = omega arith in
+    omega (arith, count-add test p n (m - (p + n)), ap (λ (k : ℕ). length (scan test p k)) all, count-found test p n i l e)
 
 -- of a test that holds nowhere from m on, a larger volume has no more
 pub count-past : (test : ℕ → Bool) (m k : ℕ) → m ≤ k → ((b : ℕ) → m ≤ b → test b ≡ false) → length (from test k 0) ≡ length (from test m 0)

@@ -32,7 +32,7 @@ module _ {test : ℕ → Bool} {k count : ℕ} where
   counted-few counted = omega (arith, counted .rest, from-length test maxBlocks 0)
 
   -- with the ones of word k it is one of the next word
-  counted-word : {word : ℕ} → IsWord test k word → Counted test k count → Counted test (k + 1) (count + ones word)
+  pub counted-word : {word : ℕ} → IsWord test k word → Counted test k count → Counted test (k + 1) (count + ones word)
   counted-word {word} is counted =
       let next : wordBits * (k + 1) ≡ wordBits * k + 32 = omega arith in
       record { rest = rw next (omega (arith, counted .rest, count-word test maxBlocks (is .past) 32 word (wordBits * k) (is .small) (is .bits))) }
@@ -42,7 +42,7 @@ module _ {test : ℕ → Bool} {k count : ℕ} where
   counted-all counted l = omega (arith, counted .rest, ap length (from-end test maxBlocks (wordBits * k) (omega arith)))
 
 -- before the first there is none
-counted-none : (test : ℕ → Bool) → Counted test 0 0
+pub counted-none : (test : ℕ → Bool) → Counted test 0 0
 counted-none test = record { rest = omega arith }
 
 -- ---- the three counts

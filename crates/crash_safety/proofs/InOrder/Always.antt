@@ -19,7 +19,7 @@ use Rattle.model.specs.Calls.Committing.{commitError, commitMemory}
 use Rattle.model.specs.Calls.Rollback.{rollbackError, rollbackMemory}
 use Rattle.model.specs.Calls.Storing.{storeError, storeMemory}
 use Rattle.model.specs.Calls.Format.{formatDisk}
-use Rattle.model.specs.Outcome.{Call, outcome, openCall, startCall, allocateCall, deallocateCall, precommitCall, commitCall, rollbackCall, storeCall, statusCall, crashCall}
+use Rattle.model.specs.Outcome.{Call, outcome, openCall, startCall, allocateCall, deallocateCall, precommitCall, commitCall, rollbackCall, storeCall, statusCall, commitCostCall, crashCall}
 use Rattle.crash_safety.specs.World.{World, begin, step, run}
 use Rattle.model.proofs.Laws.DiskParts.{opens-parts}
 use Rattle.model.proofs.Laws.Valid.{parts-valid}
@@ -49,7 +49,7 @@ store-uses w i c =
     store-consistent (w .memory) (w .disk) (i .related (c .is-valid) .slots) (i .related (c .is-valid) .sam) (i .opens) c
 
 -- and so does every call but a crash
-step-uses : (call : Call) (w : World) → Invariant w → InUse w → (call ≡ crashCall) ⊎ InUse (step call w)
+pub step-uses : (call : Call) (w : World) → Invariant w → InUse w → (call ≡ crashCall) ⊎ InUse (step call w)
 unfolding step outcome
 step-uses openCall w i c = inr (open-uses w i)
 step-uses (startCall s) w i c = inr (start-consistent (w .memory) (w .disk) (i .related (c .is-valid) .slots) c s)
@@ -63,6 +63,7 @@ step-uses (commitCall s) w i c =
 step-uses (rollbackCall s) w i c = inr (rollback-consistent (w .memory) (w .disk) (i .related (c .is-valid) .slots) c s)
 step-uses storeCall w i c = inr (store-uses w i c)
 step-uses statusCall w i c = inr c
+step-uses (commitCostCall s count) w i c = inr c
 step-uses crashCall w i c = inl refl
 
 pub run-uses : (calls : List Call) (w : World) → NoCrash calls → Invariant w → InUse w → InUse (run calls w)
@@ -83,6 +84,7 @@ zeros-stay (commitCall s) w i e = inl (ap (λ (m : Memory). commitMemory m s) e)
 zeros-stay (rollbackCall s) w i e = inl (ap (λ (m : Memory). rollbackMemory m s) e)
 zeros-stay storeCall w i e = inl (ap (λ (m : Memory). storeMemory m (w .disk)) e)
 zeros-stay statusCall w i e = inl e
+zeros-stay (commitCostCall s count) w i e = inl e
 zeros-stay crashCall w i e = inl refl
 
 step-in-order : (call : Call) (w : World) → Invariant w → InOrder w → InOrder (step call w)

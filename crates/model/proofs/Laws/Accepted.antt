@@ -7,14 +7,15 @@ use mathlib.Core.Option.{none}
 use mathlib.Core.List.{List}
 use lib.ListN.{length}
 use lib.Dec.{leb, eqb}
-use borrow.Author.Tests.{leb-true, leb-false, ltb-true, ltb-false, eqb-true, eq-eqb, not-false}
+use borrow.Author.Tests.{leb-true, leb-false, ltb-true, ltb-false, lt-ltb, le-ltb, eqb-true, eq-eqb, not-false}
 use Rattle.bitmap.specs.Sizes.{slotCount, maxCount, blocksInRange, countInRange, slotInRange}
 use Rattle.model.specs.Types.{Pending, Nothing, Commit, Recovery, Memory}
 use Rattle.model.specs.Sizes.{diskWords}
 use Rattle.model_types.specs.Memory.{slotAt, isActive, isPrecommitted, samBit, comBit}
 use Rattle.model.specs.Valid.{valid}
 use Rattle.model.specs.Disk.{diskMatches}
-use Rattle.model.specs.Causes.{memoryInvalid, diskLengthWrong, diskMismatched, blocksOutOfRange, nothingPending, workPending, slotOutOfRange, slotActive, slotInactive, slotPrecommitted, slotNotPrecommitted, countOutOfRange, listShort, available, tooFewAvailable, blockOutOfRange, blockFree, blockFreeing}
+use Rattle.model.specs.First.{first, firstOr}
+use Rattle.model.specs.Causes.{memoryInvalid, diskLengthWrong, diskMismatched, blocksOutOfRange, nothingPending, workPending, slotOutOfRange, slotActive, slotInactive, slotPrecommitted, slotNotPrecommitted, countOutOfRange, countTooLarge, listShort, available, tooFewAvailable, blockOutOfRange, blockFree, blockFreeing}
 use Rattle.model_types.specs.Pending.{isNothing}
 use Rattle.model.specs.Calls.Format.{formatError}
 use Rattle.model.specs.Calls.Start.{startError}
@@ -24,6 +25,7 @@ use Rattle.model.specs.Calls.Precommit.{precommitError}
 use Rattle.model.specs.Calls.Committing.{commitError}
 use Rattle.model.specs.Calls.Rollback.{rollbackError}
 use Rattle.model.specs.Calls.Storing.{storeError}
+use Rattle.model.specs.Calls.CommitCost.{commitCostError}
 use Rattle.model.proofs.Laws.First.{first-none, none-first}
 use Rattle.model.proofs.Laws.Writes.{and-first, and-second}
 
@@ -122,6 +124,45 @@ module _ (memory : Memory) (s : ℕ) where
         enough = ltb-false (length (available memory)) count (c17 .0);
       }
 
+  pub record CommitCostAccepted (count : ℕ) : Type 0 where
+    pub ready : Ready memory s
+    pub active : isActive (slotAt memory s .state) ≡ true
+    pub not-precommitted : isPrecommitted (slotAt memory s .state) ≡ false
+    pub few : count ≤ maxCount
+    pub enough : count ≤ length (available memory)
+
+  pub commit-cost-accepted : (count : ℕ) → commitCostError memory s count ≡ none → CommitCostAccepted count
+  unfolding commitCostError slotPrecommitted countTooLarge tooFewAvailable
+  commit-cost-accepted count e =
+      let c1 = first-none _ e in
+      let c8 = c1 .1 in
+      let c10 = c8 .1 in
+      let c12 = c10 .1 in
+      let c13 = c12 .1 in
+      let c15 = c13 .1 in
+      let c17 = c15 .1 in
+      record {
+        ready = ready-of memory s (c1 .0) (c8 .0) (c10 .0);
+        active = slot-active memory s (c12 .0);
+        not-precommitted = c13 .0;
+        few = ltb-false maxCount count (c15 .0);
+        enough = ltb-false (length (available memory)) count (c17 .0);
+      }
+
+  -- and the other way round
+  pub accepted-commit-cost : (count : ℕ) → CommitCostAccepted count → commitCostError memory s count ≡ none
+  unfolding commitCostError first firstOr memoryInvalid workPending nothingPending isNothing slotOutOfRange slotInRange slotInactive slotActive slotPrecommitted countTooLarge tooFewAvailable available
+  accepted-commit-cost count a =
+      rw (
+        a .ready .is-valid,
+        a .ready .nothing-pending,
+        lt-ltb s slotCount (a .ready .below),
+        a .active,
+        a .not-precommitted,
+        le-ltb maxCount count (a .few),
+        le-ltb (length (available memory)) count (a .enough),
+      )
+
   pub record DeallocateAccepted (block : ℕ) : Type 0 where
     pub ready : Ready memory s
     pub active : isActive (slotAt memory s .state) ≡ true
@@ -166,6 +207,18 @@ module _ (memory : Memory) (s : ℕ) where
       let c13 = c12 .1 in
       record { ready = ready-of memory s (c1 .0) (c8 .0) (c10 .0); active = slot-active memory s (c12 .0); not-precommitted = c13 .0 }
 
+  -- and the other way round
+  pub accepted-precommit : PrecommitAccepted → precommitError memory s ≡ none
+  unfolding precommitError first firstOr memoryInvalid workPending nothingPending isNothing slotOutOfRange slotInRange slotInactive slotActive slotPrecommitted
+  accepted-precommit a =
+      rw (
+        a .ready .is-valid,
+        a .ready .nothing-pending,
+        lt-ltb s slotCount (a .ready .below),
+        a .active,
+        a .not-precommitted,
+      )
+
   pub record CommitAccepted : Type 0 where
     pub ready : Ready memory s
     pub active : isActive (slotAt memory s .state) ≡ true
@@ -184,6 +237,18 @@ module _ (memory : Memory) (s : ℕ) where
         active = slot-active memory s (c12 .0);
         precommitted = not-false (isPrecommitted (slotAt memory s .state)) (c14 .0);
       }
+
+  -- and the other way round
+  pub accepted-commit : CommitAccepted → commitError memory s ≡ none
+  unfolding commitError first firstOr memoryInvalid workPending nothingPending isNothing slotOutOfRange slotInRange slotInactive slotActive slotNotPrecommitted slotPrecommitted
+  accepted-commit a =
+      rw (
+        a .ready .is-valid,
+        a .ready .nothing-pending,
+        lt-ltb s slotCount (a .ready .below),
+        a .active,
+        a .precommitted,
+      )
 
   pub record RollbackAccepted : Type 0 where
     pub ready : Ready memory s

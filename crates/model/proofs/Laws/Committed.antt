@@ -75,8 +75,15 @@ same-differ a b x y p q = sym (either a b) ∙ ap₂ _||_ p q ∙ either x y
     either false false = refl
 
 module _ (memory : Memory) (s : ℕ) (parts : ValidParts memory) (h : s < length (memory .slots)) (active : isActive (slotAt memory s .state) ≡ true) where
+  -- its own slot is idle
+  pub own-idle : slotAt (committed memory s) s ≡ idleSlot
+  unfolding committed
+  own-idle =
+      let refresh = refreshed memory (committedSam memory s) in
+      getD-set-same (map refresh (memory .slots)) s idleSlot idleSlot (omega (arith, length-map (memory .slots) refresh, h))
+
   -- another slot has touched what it had
-  others-touch : (b t : ℕ) → (t ≡ s → ⊥) → touchesBlock (committed memory s) (slotAt (committed memory s) t) b ≡ touchesBlock memory (slotAt memory t) b
+  pub others-touch : (b t : ℕ) → (t ≡ s → ⊥) → touchesBlock (committed memory s) (slotAt (committed memory s) t) b ≡ touchesBlock memory (slotAt memory t) b
   unfolding committed touched
   others-touch b t n =
       ap
@@ -160,7 +167,7 @@ module _ (memory : Memory) (s : ℕ) (parts : ValidParts memory) (h : s < length
             (λ (slot : Slot).
             one (touchesBlock (committed memory s) slot b) + one (differs memory b)
             ≡ one (touchesBlock memory (slotAt memory s) b) + one (differs (committed memory s) b))
-            (sym (getD-set-same slots s idleSlot idleSlot (omega (arith, size, length-set slots s idleSlot))))
+            (sym own-idle)
             (omega (arith, own-touch b inside)));
         pending-valid = refl;
       }

@@ -1,10 +1,22 @@
 -- A memory with one slot changed, slot by slot. (Of all other changes the fields compute.)
-use Prim.Native.Nat.{ℕ, _<_}
-use mathlib.Core.Path.{_≡_}
-use lib.ListN.{length, length-set}
+use Prim.Native.Nat.{ℕ, _≤_, _<_}
+use native.Mathlib.Nat.{lt-of-not-le}
+use native.Mathlib.Decide.{decLe}
+use mathlib.Core.Path.{_≡_, sym, ap, _∙_}
+use mathlib.Core.Bool.{true, false≢true}
+use lib.ListN.{length, length-set, List·getD-eq-default}
 use lib.Seq.{getD-set-same, getD-set-other}
 use Rattle.model.specs.Types.{Slot, Memory}
-use Rattle.model_types.specs.Memory.{idleSlot, slotAt, withSlot}
+use Rattle.model_types.specs.Memory.{idleSlot, isActive, slotAt, withSlot}
+
+-- a slot that isn't idle is there
+pub active-there : (memory : Memory) (s : ℕ) → isActive (slotAt memory s .state) ≡ true → s < length (memory .slots)
+active-there memory s e = go (decLe (length (memory .slots)) s)
+  where
+    go : Dec (length (memory .slots) ≤ s) → s < length (memory .slots)
+    go (yes h) =
+        absurd (false≢true (sym (ap (λ (slot : Slot). isActive (slot .state)) (List·getD-eq-default (memory .slots) idleSlot {n = s} h)) ∙ e))
+    go (no n) = lt-of-not-le n
 
 module _ (memory : Memory) (s : ℕ) (slot : Slot) where
   pub slots-length : length (withSlot memory s slot .slots) ≡ length (memory .slots)

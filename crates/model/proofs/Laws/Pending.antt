@@ -1,21 +1,20 @@
 -- Valid pending work, part by part: a commit and its 3·d + 2 stores, a recovery; and with one more store done.
 use Prim.Native.Nat.{ℕ, _+_, _≤_, _<_}
-use native.Mathlib.Decide.{decLe}
-use native.Mathlib.Nat.{lt-of-not-le}
 use native.Mathlib.Omega.{arith}
 use mathlib.Core.Path.{_≡_, refl, sym, ap, _∙_}
-use mathlib.Core.Bool.{Bool, true, false, cond, _&&_, false≢true}
-use lib.ListN.{length, List·getD-eq-default}
+use mathlib.Core.Bool.{Bool, true, false, cond, _&&_}
+use lib.ListN.{length}
 use lib.Dec.{leb, ltb, eqb}
 use borrow.Author.Tests.{eqb-false, leb-true, ltb-true, eqb-true, le-leb, lt-ltb, eq-eqb, ne-eqb}
 use Rattle.bitmap.specs.Sizes.{slotCount}
-use Rattle.model.specs.Types.{SlotState, Idle, Open, Precommitted, Slot, Pending, Nothing, Commit, Recovery, Memory}
-use Rattle.model_types.specs.Memory.{slotAt, idleSlot, isActive, isPrecommitted, withPending, volumeWords}
+use Rattle.model.specs.Types.{SlotState, Idle, Open, Precommitted, Pending, Nothing, Commit, Recovery, Memory}
+use Rattle.model_types.specs.Memory.{slotAt, isActive, isPrecommitted, withPending, volumeWords}
 use Rattle.model_types.specs.Pending.{storesFor}
 use Rattle.model.specs.Stores.{commitStores}
 use Rattle.model.specs.Commit.{committedSam, entriesOf, changedOf, commitDue}
 use Rattle.model.specs.Pending.{storesDone, storesDue, oneMoreDone}
 use Rattle.model.specs.Valid.{isQuiet, pendingValid}
+use Rattle.model.proofs.Laws.Fields.{active-there}
 use Rattle.model.proofs.Laws.Writes.{and-both, and-first, and-second}
 use Rattle.model.proofs.Laws.StoreLists.{length-commitStores}
 use Rattle.model.proofs.Laws.Valid.{ValidParts}
@@ -68,14 +67,7 @@ precommitted-active Precommitted e = refl
 
 -- and one of the eight
 pub precommitted-below : (memory : Memory) (s : ℕ) → length (memory .slots) ≡ slotCount → isPrecommitted (slotAt memory s .state) ≡ true → s < slotCount
-precommitted-below memory s eight e = go (decLe slotCount s)
-  where
-    go : Dec (slotCount ≤ s) → s < slotCount
-    go (yes h) =
-        absurd
-        (false≢true
-        (sym (ap (λ (slot : Slot). isPrecommitted (slot .state)) (List·getD-eq-default (memory .slots) idleSlot {n = s} (omega arith))) ∙ e))
-    go (no n) = lt-of-not-le n
+precommitted-below memory s eight e = omega (arith, eight, active-there memory s (precommitted-active (slotAt memory s .state) e))
 
 -- a commit just begun
 pub begun-valid : (memory : Memory) (s : ℕ) → eqb (changedOf memory s) 0 ≡ false → ValidParts memory

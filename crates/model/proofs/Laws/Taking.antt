@@ -18,6 +18,7 @@ use Rattle.model.specs.Valid.{touched}
 use Rattle.model.specs.Causes.{available}
 use Rattle.model.specs.Calls.Allocate.{lowest, taking}
 use Rattle.model.specs.Calls.Deallocate.{freeing}
+use Rattle.model.proofs.Laws.Fields.{slot-same}
 use Rattle.model.proofs.Laws.Valid.{ValidParts, touchesBlock}
 use Rattle.model.proofs.Laws.Commit.{touched-differs}
 use Rattle.model.proofs.Laws.Touches.{one, xor-self, differs, active-valid, touching-valid}
@@ -121,6 +122,15 @@ grant-valid memory s blocks all parts nothing h active =
     set-there : (b : ℕ) (t : Bool) → member b blocks ≡ t → (old : Bool) → (t || old) ≡ cond t (not (samBit memory b)) old
     set-there b true e old = sym (ap not (all b e .free))
     set-there b false e old = refl
+
+-- and its slot in the state it was in
+pub taking-state : (memory : Memory) (s : ℕ) (blocks : List ℕ) → s < length (memory .slots) → slotAt (taking memory s blocks) s .state ≡ slotAt memory s .state
+unfolding taking
+taking-state memory s blocks h =
+    ap (λ (slot : Slot). slot .state)
+    (slot-same (withCom memory (volumeBitmap memory (λ b. member b blocks || comBit memory b))) s
+    (withTam (slotAt memory s) (volumeBitmap memory (λ b. member b blocks || tamBit (slotAt memory s) b)))
+    h)
 
 -- the n lowest available blocks are such a list
 pub lowest-available : (memory : Memory) (count : ℕ) → AllAvailable memory (lowest memory count)

@@ -1,0 +1,2 @@
+-- The verdict, and the blocks touched.
+pub mod CommitCost

@@ -1,0 +1,34 @@
+-- By the smaller of the two numbers.
+use native.Mathlib.Nat.{min-eq-left, min-eq-right, le-of-lt}
+use native.Mathlib.Omega.{arith}
+use mathlib.Core.Path.{sym, ap, _∙_}
+use mathlib.Core.Logic.{⊎-elim}
+use borrow.Author.Tests.{eq-eqb, ne-eqb}
+use Rattle.model_types.specs.Pending.{storesFor}
+use Rattle.model.specs.Calls.CommitCost.{costFor}
+use Rattle.commit_cost.proofs.stores_at_most.Statement.{statement}
+use Rattle.commit_cost.proofs.stores_at_most.Tie as tie
+
+returns : tie.Need-returns
+unfolding costFor
+returns c = rw (eq-eqb (c .before .args .touched) 0 (c .if1 .taken))
+
+stores-for-requires : tie.Need-stores-for-requires
+stores-for-requires c κs =
+    let b = c .before .before in
+    ⊎-elim (λ w. omega (arith, b .pre, w .0 .taken, w .1)) (λ w. omega (arith, b .pre, w .1)) (c .if2 .came)
+
+returns-2 : tie.Need-returns-2
+unfolding costFor
+returns-2 c =
+    let b = c .before .before .before in
+    let a = b .args in
+    c .stores-for .ensures
+    ∙ rw (ne-eqb (a .touched) 0 (c .before .before .if1 .left))
+    (⊎-elim
+    (λ w. ap storesFor (w .1 ∙ sym (min-eq-left (le-of-lt (w .0 .taken)))))
+    (λ w. ap storesFor (w .1 ∙ sym (min-eq-right (omega (arith, w .0 .left)))))
+    (c .before .if2 .came))
+
+pub stores-at-most-spec : {M : Type 1} → statement M
+stores-at-most-spec = tie.close (tie.spec returns stores-for-requires returns-2)

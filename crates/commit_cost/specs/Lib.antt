@@ -1,0 +1,2 @@
+-- The causes that commit cost tests after those of an open slot.
+pub mod Causes

@@ -1,0 +1,82 @@
+// Commit cost: the most stores that a slot's commit may need once the slot has so many blocks more. The memory stays.
+ghost use mathlib.Core.Path.{_≡_};
+ghost use mathlib.Core.Bool.{true};
+ghost use Prim.Native.Nat.{_≤_};
+ghost use Rattle.bitmap.specs.Sizes.{maxBlocks, bitmapWords};
+ghost use Rattle.bitmap.specs.Bits.{IsBitmap};
+ghost use Rattle.model.specs.Calls.CommitCost.{costFor, commitCostAnswer};
+ghost use Rattle.verdicts.specs.Verdicts.{isAccepted, thenCauses};
+ghost use Rattle.commit_cost.specs.Causes.{costCauses};
+use bitmap::Bitmap;
+use counting::count_available;
+use counting::count_differing;
+use model_types::answer::Stored;
+use model_types::answer::StoresAnswer;
+use model_types::error::Error;
+use model_types::memory::Memory;
+use model_types::memory::Pending;
+use validity::valid;
+use verdicts::ready::open;
+use verdicts::verdict::Verdict;
+
+// After the causes of an open slot, 15 for a count above 64, and 17.
+fn enough<'a>(
+    earlier: Verdict,
+    blocks: u32,
+    sam: &'a [u32; 128],
+    com: &'a [u32; 128],
+    count: u32,
+) -> Verdict
+    requires { ⌜ IsBitmap (now sam) ⌝ }
+    requires { ⌜ IsBitmap (now «com») ⌝ }
+    requires { ⌜ (isAccepted earlier ≡ true → blocks ≤ maxBlocks) ⌝ }
+    ensures { λ r. ⌜ r ≡ thenCauses earlier (costCauses blocks (now (sam .entry)) (now («com» .entry)) count) ⌝ }
+{
+    if !earlier.is_accepted() {
+        return earlier;
+    }
+    let few = count_available(sam, com, blocks) < count;
+    let counted = Verdict::Accepted.unless(Bitmap::COUNT < count, Error::CountRange);
+    counted.unless(few, Error::TooFewAvailable)
+}
+
+// The most stores of a commit with so many blocks touched: it changes no more words than blocks, and no more than there are.
+fn stores_at_most(words: u32, touched: u32) -> u32
+    requires { ⌜ words ≤ bitmapWords ⌝ }
+    ensures { λ r. ⌜ r ≡ costFor words touched ⌝ }
+{
+    if touched == 0 {
+        return 0;
+    }
+    let mut changed = words;
+    if touched < words {
+        changed = touched;
+    }
+    Pending::stores_for(changed)
+}
+
+// Tells what the commit of an open slot may cost with so many blocks more.
+pub fn commit_cost(memory: Memory, slot: u32, count: u32) -> Stored
+    ensures answers { λ r. ⌜ r .answer ≡ commitCostAnswer memory slot count ⌝ }
+    ensures leaves { λ r. ⌜ r .memory ≡ memory ⌝ }
+{
+    let blocks = memory.blocks;
+    let sam = memory.sam;
+    let com = memory.com;
+    let slots = memory.slots;
+    let pending = memory.pending;
+    let owner = slots[pending.owner()];
+    let sound = valid(blocks, &sam.words, &com.words, slots, pending, owner);
+    let at = Bitmap::slot_index(slot);
+    let own = slots[at];
+    let state = own.state;
+    let earlier = open(sound, pending, slot, state);
+    let verdict = enough(earlier, blocks, &sam.words, &com.words, count);
+    let mut answer = verdict.stores(0);
+    if verdict.is_accepted() {
+        let words = Bitmap::words_for(blocks);
+        let touched = count_differing(&own.tam.words, &sam.words);
+        answer = StoresAnswer::Due(stores_at_most(words, touched + count));
+    }
+    Stored { answer, memory }
+}

@@ -1,0 +1,43 @@
+//! The commit cost as document 02 says it, one block at a time.
+
+use crate::counts::counts_by_blocks;
+use reference::{Error, Memory, Pending, Slot, SlotState};
+
+/// What commit cost is to answer: its causes in number order, then its number.
+pub fn cost_by_blocks(memory: &Memory, slot: u32, count: u32) -> Result<u32, Error> {
+    let refused = |error| Err(error);
+    if !memory.is_valid() {
+        return refused(Error::InvalidMemory);
+    }
+    if memory.pending != Pending::Nothing {
+        return refused(Error::WorkPending);
+    }
+    let Some(slot) = memory.slots.get(slot as usize) else {
+        return refused(Error::SlotNumber);
+    };
+    match slot.state {
+        SlotState::Idle => refused(Error::SlotIdle),
+        SlotState::Precommitted => refused(Error::SlotPrecommitted),
+        SlotState::Open if count > 64 => refused(Error::Count),
+        SlotState::Open if counts_by_blocks(memory).available < count => {
+            refused(Error::TooFewAvailable)
+        }
+        SlotState::Open => Ok(stores(touched_by_blocks(memory, slot) + count, memory.blocks)),
+    }
+}
+
+/// t, the blocks that the slot has touched.
+pub fn touched_by_blocks(memory: &Memory, slot: &Slot) -> u32 {
+    let is_touched = |block: &u32| slot.tam.has(*block) != memory.sam.has(*block);
+    (0..memory.blocks).filter(is_touched).count() as u32
+}
+
+/// "0 if t + n is 0, else 3·(the smaller of t + n and W) + 2".
+fn stores(touched: u32, blocks: u32) -> u32 {
+    let words = (blocks - 1) / 32 + 1;
+    match touched {
+        0 => 0,
+        touched if touched < words => 3 * touched + 2,
+        _ => 3 * words + 2,
+    }
+}
