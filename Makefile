@@ -42,7 +42,7 @@ test: reference-test stored-tests
 soak: program test-program reference
 	@bench/soak $(SEEDS)
 
-speed: program reference
+speed: program test-program reference
 	@python3 bench/speed
 
 clean:

@@ -1,20 +1,20 @@
 -- What the acceptance of a call tells, by name: for each call the causes of its list that don't hold. Below `cN` is what is
 -- left of the list from cause N on.
 use Prim.Native.Nat.{ℕ, _≤_, _<_}
-use mathlib.Core.Path.{_≡_, refl, ap}
+use mathlib.Core.Path.{_≡_, refl, ap, _∙_}
 use mathlib.Core.Bool.{Bool, true, false, not, _&&_, false≢true}
 use mathlib.Core.Option.{none}
-use mathlib.Core.List.{List}
+use mathlib.Core.List.{List, [], _∷_}
 use lib.ListN.{length}
 use lib.Dec.{leb, eqb}
 use borrow.Author.Tests.{leb-true, leb-false, ltb-true, ltb-false, lt-ltb, le-ltb, eqb-true, eq-eqb, not-false}
 use Rattle.bitmap.specs.Sizes.{slotCount, maxCount, blocksInRange, countInRange, slotInRange}
-use Rattle.model.specs.Types.{Pending, Nothing, Commit, Recovery, Memory}
+use Rattle.model.specs.Types.{Pending, Nothing, Commit, Recovery, Memory, CountRange, TooFewAvailable}
 use Rattle.model.specs.Sizes.{diskWords}
 use Rattle.model_types.specs.Memory.{slotAt, isActive, isPrecommitted, samBit, comBit}
 use Rattle.model.specs.Valid.{valid}
 use Rattle.model.specs.Disk.{diskMatches}
-use Rattle.model.specs.First.{first, firstOr}
+use Rattle.model.specs.First.{first, firstOr, _⇒_}
 use Rattle.model.specs.Causes.{memoryInvalid, diskLengthWrong, diskMismatched, blocksOutOfRange, nothingPending, workPending, slotOutOfRange, slotActive, slotInactive, slotPrecommitted, slotNotPrecommitted, countOutOfRange, countTooLarge, listShort, available, tooFewAvailable, blockOutOfRange, blockFree, blockFreeing}
 use Rattle.model_types.specs.Pending.{isNothing}
 use Rattle.model.specs.Calls.Format.{formatError}
@@ -26,7 +26,7 @@ use Rattle.model.specs.Calls.Committing.{commitError}
 use Rattle.model.specs.Calls.Rollback.{rollbackError}
 use Rattle.model.specs.Calls.Storing.{storeError}
 use Rattle.model.specs.Calls.CommitCost.{commitCostError}
-use Rattle.model.proofs.Laws.First.{first-none, none-first}
+use Rattle.model.proofs.Laws.First.{first-none, none-first, none-append}
 use Rattle.model.proofs.Laws.Writes.{and-first, and-second}
 
 -- ---- single causes
@@ -124,45 +124,6 @@ module _ (memory : Memory) (s : ℕ) where
         enough = ltb-false (length (available memory)) count (c17 .0);
       }
 
-  pub record CommitCostAccepted (count : ℕ) : Type 0 where
-    pub ready : Ready memory s
-    pub active : isActive (slotAt memory s .state) ≡ true
-    pub not-precommitted : isPrecommitted (slotAt memory s .state) ≡ false
-    pub few : count ≤ maxCount
-    pub enough : count ≤ length (available memory)
-
-  pub commit-cost-accepted : (count : ℕ) → commitCostError memory s count ≡ none → CommitCostAccepted count
-  unfolding commitCostError slotPrecommitted countTooLarge tooFewAvailable
-  commit-cost-accepted count e =
-      let c1 = first-none _ e in
-      let c8 = c1 .1 in
-      let c10 = c8 .1 in
-      let c12 = c10 .1 in
-      let c13 = c12 .1 in
-      let c15 = c13 .1 in
-      let c17 = c15 .1 in
-      record {
-        ready = ready-of memory s (c1 .0) (c8 .0) (c10 .0);
-        active = slot-active memory s (c12 .0);
-        not-precommitted = c13 .0;
-        few = ltb-false maxCount count (c15 .0);
-        enough = ltb-false (length (available memory)) count (c17 .0);
-      }
-
-  -- and the other way round
-  pub accepted-commit-cost : (count : ℕ) → CommitCostAccepted count → commitCostError memory s count ≡ none
-  unfolding commitCostError first firstOr memoryInvalid workPending nothingPending isNothing slotOutOfRange slotInRange slotInactive slotActive slotPrecommitted countTooLarge tooFewAvailable available
-  accepted-commit-cost count a =
-      rw (
-        a .ready .is-valid,
-        a .ready .nothing-pending,
-        lt-ltb s slotCount (a .ready .below),
-        a .active,
-        a .not-precommitted,
-        le-ltb maxCount count (a .few),
-        le-ltb (length (available memory)) count (a .enough),
-      )
-
   pub record DeallocateAccepted (block : ℕ) : Type 0 where
     pub ready : Ready memory s
     pub active : isActive (slotAt memory s .state) ≡ true
@@ -218,6 +179,39 @@ module _ (memory : Memory) (s : ℕ) where
         a .active,
         a .not-precommitted,
       )
+
+  pub record CommitCostAccepted (count : ℕ) : Type 0 where
+    pub ready : Ready memory s
+    pub active : isActive (slotAt memory s .state) ≡ true
+    pub not-precommitted : isPrecommitted (slotAt memory s .state) ≡ false
+    pub few : count ≤ maxCount
+    pub enough : count ≤ length (available memory)
+
+  pub commit-cost-accepted : (count : ℕ) → commitCostError memory s count ≡ none → CommitCostAccepted count
+  unfolding commitCostError slotPrecommitted countTooLarge tooFewAvailable
+  commit-cost-accepted count e =
+      let c1 = first-none _ e in
+      let c8 = c1 .1 in
+      let c10 = c8 .1 in
+      let c12 = c10 .1 in
+      let c13 = c12 .1 in
+      let c15 = c13 .1 in
+      let c17 = c15 .1 in
+      record {
+        ready = ready-of memory s (c1 .0) (c8 .0) (c10 .0);
+        active = slot-active memory s (c12 .0);
+        not-precommitted = c13 .0;
+        few = ltb-false maxCount count (c15 .0);
+        enough = ltb-false (length (available memory)) count (c17 .0);
+      }
+
+  -- and the other way round: an open slot, as precommit asks for it, and the count
+  pub accepted-commit-cost : (count : ℕ) → CommitCostAccepted count → commitCostError memory s count ≡ none
+  unfolding precommitError commitCostError countTooLarge tooFewAvailable
+  accepted-commit-cost count a =
+      none-append _ (countTooLarge count ⇒ CountRange ∷ tooFewAvailable memory count ⇒ TooFewAvailable ∷ [])
+      (accepted-precommit (record { ready = a .ready; active = a .active; not-precommitted = a .not-precommitted }))
+      ∙ none-first _ (le-ltb maxCount count (a .few), (le-ltb (length (available memory)) count (a .enough), tt))
 
   pub record CommitAccepted : Type 0 where
     pub ready : Ready memory s
