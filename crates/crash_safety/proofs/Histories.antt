@@ -12,6 +12,7 @@ use Rattle.bitmap.specs.Blocks.{scan, from, allocatedBlocks, isAvailable, avail
 use Rattle.bitmap.specs.Majority.{majority}
 use Rattle.model_types.specs.Answers.{done, granted, due, counted}
 use Rattle.model.specs.Calls.Allocate.{allocateError, lowest, taking, allocateAnswer, allocateMemory, allocateList}
+use Rattle.model.specs.Calls.CommitCost.{commitCostError, touchedBlocks, costFor, commitCost, commitCostAnswer}
 use Rattle.model.specs.Calls.Committing.{commitError, committing, commitAnswer, commitMemory}
 use Rattle.model.specs.Calls.Deallocate.{deallocateError, freeing, deallocateAnswer, deallocateMemory}
 use Rattle.model.specs.Calls.Format.{formatError, formatted, formatAnswer, formatDisk}
@@ -21,13 +22,13 @@ use Rattle.model.specs.Calls.Rollback.{rollbackError, rolledBackCom, rolledBack
 use Rattle.model.specs.Calls.Start.{startError, started, startAnswer, startMemory}
 use Rattle.model.specs.Calls.Status.{statusError, counts as statusCounts, statusAnswer, allocated, activeSlots}
 use Rattle.model.specs.Calls.Storing.{storeError, stillDue, advanced, nextStored, storeAnswer, storeMemory, storeDisk}
-use Rattle.model.specs.Causes.{memoryInvalid, diskLengthWrong, diskBlocksWrong, diskBitmapWrong, diskLogWrong, diskMismatched, blocksOutOfRange, nothingPending, workPending, slotOutOfRange, slotActive, slotInactive, slotPrecommitted, slotNotPrecommitted, countOutOfRange, listShort, available, tooFewAvailable, blockOutOfRange, blockFree, blockFreeing}
+use Rattle.model.specs.Causes.{memoryInvalid, diskLengthWrong, diskBlocksWrong, diskBitmapWrong, diskLogWrong, diskMismatched, blocksOutOfRange, nothingPending, workPending, slotOutOfRange, slotActive, slotInactive, slotPrecommitted, slotNotPrecommitted, countOutOfRange, countTooLarge, listShort, available, tooFewAvailable, blockOutOfRange, blockFree, blockFreeing}
 use Rattle.model_types.specs.Pending.{isNothing}
 use Rattle.model.specs.Pending.{storesDone, storesDue, oneMoreDone, finished}
 use Rattle.model.specs.Commit.{committedSam, entriesOf, changedOf, commitDue, refreshed, committed}
 use Rattle.model.specs.Disk.{lengthIn, entriesIn, logEntries, entriesValid, logValid, durable, dueStores, entriesAgree, recoveryMatches, diskMatches}
 use Rattle.model.specs.First.{firstOr, first, unlessRefused}
-use Rattle.model.specs.Outcome.{outcome, Call, Outcome, openCall, startCall, allocateCall, deallocateCall, precommitCall, commitCall, rollbackCall, storeCall, statusCall, crashCall}
+use Rattle.model.specs.Outcome.{outcome, Call, Outcome, openCall, startCall, allocateCall, deallocateCall, precommitCall, commitCall, rollbackCall, storeCall, statusCall, commitCostCall, crashCall}
 use Rattle.model.specs.Stores.{writes, changesFrom, logStores, checkpointWith, journalWith, checkpointStores, commitStores}
 use Rattle.model.specs.Valid.{touched, sameWords, allSlots, slotValid, touches, touchesAgree, isQuiet, pendingValid, valid}
 use Rattle.crash_safety.specs.Ledger.{emptied, hasWord, wordsFrom, setsWords, without, takes, frees, counts, commits, stores, entered, enter, enterAll, Ledger, Sets, noSets, ledgerOf, setsOf, holders, takers}
@@ -115,9 +116,18 @@ retaken =
 reopened : List Call
 reopened = afterPoint ++ openCall ∷ storeCalls 2 ++ startCall 2 ∷ allocateCall 2 1 list ∷ []
 
--- slot 7 takes two blocks into a list of three places that aren't zeros, and is refused a third one for a list of none
+-- slot 7 takes two blocks into a list of three places that aren't zeros, and is refused a third one for a list of none; then it
+-- asks what its commit costs with two blocks more, and with three, of which one isn't there
 borrowed : List Call
-borrowed = openCall ∷ startCall 7 ∷ allocateCall 7 2 (9 ∷ 8 ∷ 7 ∷ []) ∷ allocateCall 7 1 [] ∷ statusCall ∷ []
+borrowed =
+    openCall
+    ∷ startCall 7
+    ∷ allocateCall 7 2 (9 ∷ 8 ∷ 7 ∷ [])
+    ∷ allocateCall 7 1 []
+    ∷ statusCall
+    ∷ commitCostCall 7 2
+    ∷ commitCostCall 7 3
+    ∷ []
 
 -- and rolls back; slot 1 then takes the same blocks
 rolledBackThere : List Call
@@ -187,16 +197,16 @@ expected =
     ∷ []
     ∷ (2 ∷ [])
     ∷ []
-    -- taken by slot 7; 16 for a list too short
-    ∷ (0 ∷ 0 ∷ 0 ∷ 16 ∷ 0 ∷ [])
-    ∷ (0 ∷ 0 ∷ 0 ∷ 0 ∷ 0 ∷ [])
+    -- taken by slot 7; 16 for a list too short, 17 for blocks that aren't there
+    ∷ (0 ∷ 0 ∷ 0 ∷ 16 ∷ 0 ∷ 0 ∷ 17 ∷ [])
+    ∷ (0 ∷ 0 ∷ 0 ∷ 0 ∷ 0 ∷ 5 ∷ 0 ∷ [])
     ∷ []
     ∷ []
     ∷ (0 ∷ 1 ∷ [])
     ∷ []
     -- rolled back, and taken by slot 1
-    ∷ (0 ∷ 0 ∷ 0 ∷ 16 ∷ 0 ∷ 0 ∷ 0 ∷ 0 ∷ 0 ∷ [])
-    ∷ replicate 9 0
+    ∷ (0 ∷ 0 ∷ 0 ∷ 16 ∷ 0 ∷ 0 ∷ 17 ∷ 0 ∷ 0 ∷ 0 ∷ 0 ∷ [])
+    ∷ (0 ∷ 0 ∷ 0 ∷ 0 ∷ 0 ∷ 5 ∷ 0 ∷ 0 ∷ 0 ∷ 0 ∷ 0 ∷ [])
     ∷ []
     ∷ []
     ∷ (0 ∷ 1 ∷ 2 ∷ [])
@@ -213,7 +223,7 @@ expected =
     ∷ []
 
 computed : sameRows histories expected ≡ true
-unfolding sameRows expected histories after shown slotSets follow beforePoint afterPoint retaken reopened borrowed rolledBackThere crashedTwice grow list storeCalls xor isSet bit wordOf wordsOf bitmapOf noBitsFrom scan from allocatedBlocks isAvailable availableBlocks member allBelow majority done granted due counted allocateError lowest taking allocateAnswer allocateMemory allocateList commitError committing commitAnswer commitMemory deallocateError freeing deallocateAnswer deallocateMemory formatError formatted formatAnswer formatDisk openError recoveryDue recoveryPending opened openAnswer openMemory precommitError precommitting precommitAnswer precommitMemory rollbackError rolledBackCom rolledBack rollbackAnswer rollbackMemory startError started startAnswer startMemory statusError statusCounts statusAnswer allocated activeSlots storeError stillDue advanced nextStored storeAnswer storeMemory storeDisk memoryInvalid diskLengthWrong diskBlocksWrong diskBitmapWrong diskLogWrong diskMismatched blocksOutOfRange isNothing nothingPending workPending slotOutOfRange slotActive slotInactive slotPrecommitted slotNotPrecommitted countOutOfRange listShort available tooFewAvailable blockOutOfRange blockFree blockFreeing committedSam entriesOf changedOf commitDue refreshed committed lengthIn entriesIn logEntries entriesValid logValid durable dueStores entriesAgree recoveryMatches diskMatches firstOr first unlessRefused touched outcome storesDone storesDue oneMoreDone finished writes changesFrom logStores checkpointWith journalWith checkpointStores commitStores blocksInRange countInRange slotInRange sameWords allSlots slotValid touches touchesAgree isQuiet pendingValid valid emptied hasWord wordsFrom setsWords without takes frees counts commits stores entered enter enterAll events step run
+unfolding sameRows expected histories after shown slotSets follow beforePoint afterPoint retaken reopened borrowed rolledBackThere crashedTwice grow list storeCalls xor isSet bit wordOf wordsOf bitmapOf noBitsFrom scan from allocatedBlocks isAvailable availableBlocks member allBelow majority done granted due counted commitCostError touchedBlocks costFor commitCost commitCostAnswer allocateError lowest taking allocateAnswer allocateMemory allocateList commitError committing commitAnswer commitMemory deallocateError freeing deallocateAnswer deallocateMemory formatError formatted formatAnswer formatDisk openError recoveryDue recoveryPending opened openAnswer openMemory precommitError precommitting precommitAnswer precommitMemory rollbackError rolledBackCom rolledBack rollbackAnswer rollbackMemory startError started startAnswer startMemory statusError statusCounts statusAnswer allocated activeSlots storeError stillDue advanced nextStored storeAnswer storeMemory storeDisk memoryInvalid diskLengthWrong diskBlocksWrong diskBitmapWrong diskLogWrong diskMismatched blocksOutOfRange isNothing nothingPending workPending slotOutOfRange slotActive slotInactive slotPrecommitted slotNotPrecommitted countOutOfRange countTooLarge listShort available tooFewAvailable blockOutOfRange blockFree blockFreeing committedSam entriesOf changedOf commitDue refreshed committed lengthIn entriesIn logEntries entriesValid logValid durable dueStores entriesAgree recoveryMatches diskMatches firstOr first unlessRefused touched outcome storesDone storesDue oneMoreDone finished writes changesFrom logStores checkpointWith journalWith checkpointStores commitStores blocksInRange countInRange slotInRange sameWords allSlots slotValid touches touchesAgree isQuiet pendingValid valid emptied hasWord wordsFrom setsWords without takes frees counts commits stores entered enter enterAll events step run
 computed = refl
 
 pub worked : histories ≡ expected

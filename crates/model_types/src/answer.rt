@@ -24,7 +24,7 @@ pub enum GrantAnswer {
     Refused(Error),
 }
 
-// Open, commit and store: the stores due, or still due.
+// Open, commit and store: the stores due, or still due. Commit cost: those that may be due.
 pub enum StoresAnswer {
     Due(u32),
     Refused(Error),

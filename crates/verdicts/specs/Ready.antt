@@ -1,5 +1,5 @@
--- The causes with which the lists of the six transaction calls start, in document 01's order, told by parts of a memory:
--- whether it is valid, its pending work, the slot's number and its state.
+-- The causes with which the lists of the six transaction calls and of commit cost start, in document 01's order, told by parts
+-- of a memory: whether it is valid, its pending work, the slot's number and its state.
 use Prim.Native.Nat.{ℕ}
 use mathlib.Core.Bool.{Bool, not}
 use mathlib.Core.List.{List, [], _∷_, _++_}
@@ -11,7 +11,7 @@ use Rattle.model_types.specs.Memory.{isActive, isPrecommitted}
 use Rattle.model_types.specs.Pending.{isNothing}
 use Rattle.model.specs.First.{Cause, _⇒_}
 
--- 1, 8 and 10: all six
+-- 1, 8 and 10: all of them
 abbrev pub readyCauses : Bool → Pending → ℕ → List Cause
 readyCauses sound pending s =
     not sound ⇒ MemoryInvalid
@@ -27,7 +27,7 @@ idleCauses sound pending s state = readyCauses sound pending s ++ (isActive stat
 abbrev pub activeCauses : Bool → Pending → ℕ → SlotState → List Cause
 activeCauses sound pending s state = readyCauses sound pending s ++ (not (isActive state) ⇒ SlotIdle ∷ [])
 
--- and 13: allocate, deallocate and precommit
+-- and 13: allocate, deallocate, precommit and commit cost
 abbrev pub openCauses : Bool → Pending → ℕ → SlotState → List Cause
 openCauses sound pending s state = activeCauses sound pending s state ++ (isPrecommitted state ⇒ SlotPrecommitted ∷ [])
 

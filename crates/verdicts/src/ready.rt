@@ -1,4 +1,5 @@
-// What the six transaction calls test first: whether the memory is valid, its pending work, the slot's number and its state.
+// What the six transaction calls and commit cost test first: whether the memory is valid, its pending work, the slot's number
+// and its state.
 ghost use mathlib.Core.Path.{_≡_};
 ghost use Rattle.model.specs.First.{first};
 ghost use Rattle.verdicts.specs.Verdicts.{verdict};
@@ -9,7 +10,7 @@ use model_types::error::Error;
 use model_types::memory::Pending;
 use model_types::memory::SlotState;
 
-// Causes 1, 8 and 10: all six test them.
+// Causes 1, 8 and 10: all of them.
 fn ready(sound: bool, pending: Pending, slot: u32) -> Verdict
     ensures { λ r. ⌜ r ≡ verdict (first (readyCauses sound pending slot)) ⌝ }
 {
@@ -34,7 +35,7 @@ pub fn active(sound: bool, pending: Pending, slot: u32, state: SlotState) -> Ver
     earlier.unless(!state.is_active(), Error::SlotIdle)
 }
 
-// Those, and 13: allocate, deallocate and precommit.
+// Those, and 13: allocate, deallocate, precommit and commit cost.
 pub fn open(sound: bool, pending: Pending, slot: u32, state: SlotState) -> Verdict
     ensures { λ r. ⌜ r ≡ verdict (first (openCauses sound pending slot state)) ⌝ }
 {

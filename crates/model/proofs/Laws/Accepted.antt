@@ -67,7 +67,7 @@ both-set : (sam «com» : Bool) → sam ≡ true → (sam && not «com») ≡ fa
 both-set true «com» s e = not-false «com» e
 both-set false «com» s e = absurd (false≢true s)
 
--- ---- the six transaction calls
+-- ---- the six transaction calls, and commit cost
 
 -- 1, 8 and 10: the memory is valid, nothing is pending, and the slot is there
 pub record Ready (memory : Memory) (s : ℕ) : Type 0 where
