@@ -22,22 +22,6 @@ fn assert_five_refused(state: &State, error: Error, slot: u32) {
     assert_refused(state, error, |s| rollback(&mut s.memory, slot));
 }
 
-/// 100 blocks; 70 are allocated; slot 1 is open and has touched both kinds, slot 2 is precommitted.
-fn busy() -> State {
-    let mut state = State::opened(100);
-    state.start(0);
-    state.allocate(0, 70);
-    state.commit(0);
-    state.start(1);
-    state.start(2);
-    state.allocate(1, 3);
-    state.free(1, 10);
-    state.allocate(2, 2);
-    state.free(2, 20);
-    state.precommit(2);
-    state
-}
-
 fn assert_open_refused(disk: &[u32], error: Error) {
     let opened = open(disk);
     assert_eq!(opened.answer, Err(error));
@@ -54,9 +38,9 @@ fn disk_with_log(log_length: u32, log: &[u32]) -> Vec<u32> {
 
 #[test]
 fn cause_1_memory_not_valid() {
-    let mut zeros = busy();
+    let mut zeros = State::busy();
     zeros.memory = Memory::ZEROS;
-    let mut damaged = busy();
+    let mut damaged = State::busy();
     damaged.memory.com.words[1] ^= 1;
     for state in [zeros, damaged] {
         assert_six_refused(&state, Error::InvalidMemory, 1);
@@ -68,7 +52,7 @@ fn cause_1_memory_not_valid() {
 #[test]
 fn cause_2_disk_not_386_words() {
     for length in [0, 1, 385, 387, 1000] {
-        let mut state = busy();
+        let mut state = State::busy();
         commit(&mut state.memory, 2).unwrap();
         state.disk.resize(length, 0);
         assert_refused(&state, Error::DiskLength, |s| format(&mut s.disk, 5));
@@ -136,8 +120,8 @@ fn cause_5_takes_the_longest_log() {
 
 #[test]
 fn cause_6_disk_of_another_memory() {
-    let at_rest = busy();
-    let mut in_commit = busy();
+    let at_rest = State::busy();
+    let mut in_commit = State::busy();
     commit(&mut in_commit.memory, 2).unwrap();
     in_commit.stores(7);
     let mut in_recovery = in_commit.clone();
@@ -154,7 +138,7 @@ fn cause_6_disk_of_another_memory() {
 
 #[test]
 fn cause_7_block_count_of_a_format() {
-    let mut state = busy();
+    let mut state = State::busy();
     state.disk.fill(UNWRITTEN);
     for blocks in [0, 4097, u32::MAX] {
         assert_refused(&state, Error::BlockCount, |s| format(&mut s.disk, blocks));
@@ -168,7 +152,7 @@ fn cause_7_block_count_of_a_format() {
 
 #[test]
 fn cause_8_work_pending() {
-    let mut state = busy();
+    let mut state = State::busy();
     state.precommit(1);
     assert_eq!(commit(&mut state.memory, 2), Ok(8));
     for slot in [0, 1, 2] {
@@ -185,34 +169,34 @@ fn cause_8_work_pending() {
 
 #[test]
 fn cause_9_nothing_pending() {
-    assert_refused(&busy(), Error::NothingPending, |s| store(&mut s.memory, &mut s.disk));
+    assert_refused(&State::busy(), Error::NothingPending, |s| store(&mut s.memory, &mut s.disk));
 }
 
 #[test]
 fn cause_10_slot_above_7() {
     for slot in [8, 9, u32::MAX] {
-        assert_six_refused(&busy(), Error::SlotNumber, slot);
+        assert_six_refused(&State::busy(), Error::SlotNumber, slot);
     }
-    assert_accepted(&busy(), |s| start(&mut s.memory, 7));
+    assert_accepted(&State::busy(), |s| start(&mut s.memory, 7));
 }
 
 #[test]
 fn cause_11_slot_not_idle() {
     for slot in [1, 2] {
-        assert_refused(&busy(), Error::SlotNotIdle, |s| start(&mut s.memory, slot));
+        assert_refused(&State::busy(), Error::SlotNotIdle, |s| start(&mut s.memory, slot));
     }
 }
 
 #[test]
 fn cause_12_slot_idle() {
     for slot in [0, 3, 7] {
-        assert_five_refused(&busy(), Error::SlotIdle, slot);
+        assert_five_refused(&State::busy(), Error::SlotIdle, slot);
     }
 }
 
 #[test]
 fn cause_13_slot_precommitted() {
-    let state = busy();
+    let state = State::busy();
     assert_refused(&state, Error::SlotPrecommitted, |s| allocate(&mut s.memory, 2, 1, &mut s.list));
     assert_refused(&state, Error::SlotPrecommitted, |s| deallocate(&mut s.memory, 2, 0));
     assert_refused(&state, Error::SlotPrecommitted, |s| precommit(&mut s.memory, 2));
@@ -222,26 +206,26 @@ fn cause_13_slot_precommitted() {
 
 #[test]
 fn cause_14_slot_not_precommitted() {
-    assert_refused(&busy(), Error::SlotNotPrecommitted, |s| commit(&mut s.memory, 1));
+    assert_refused(&State::busy(), Error::SlotNotPrecommitted, |s| commit(&mut s.memory, 1));
 }
 
 #[test]
 fn cause_15_count_outside_1_to_64() {
     for count in [0, 65, u32::MAX] {
         let call = |s: &mut State| allocate(&mut s.memory, 1, count, &mut s.list);
-        assert_refused(&busy(), Error::Count, call);
+        assert_refused(&State::busy(), Error::Count, call);
     }
 }
 
 #[test]
 fn cause_16_list_shorter_than_the_count() {
     for (length, count) in [(0, 1), (0, 64), (1, 2), (19, 20), (63, 64)] {
-        let mut state = busy();
+        let mut state = State::busy();
         state.list.truncate(length);
         let call = |s: &mut State| allocate(&mut s.memory, 1, count, &mut s.list);
         assert_refused(&state, Error::ListLength, call);
     }
-    let mut state = busy();
+    let mut state = State::busy();
     state.list.truncate(20);
     assert_accepted(&state, |s| allocate(&mut s.memory, 1, 20, &mut s.list));
 }
@@ -251,16 +235,16 @@ fn cause_17_fewer_available_blocks_than_the_count() {
     // Of 100 blocks 70 are allocated and 5 taken; the 2 being freed aren't available.
     for count in [26, 64] {
         let call = |s: &mut State| allocate(&mut s.memory, 1, count, &mut s.list);
-        assert_refused(&busy(), Error::TooFewAvailable, call);
+        assert_refused(&State::busy(), Error::TooFewAvailable, call);
     }
-    let mut state = busy();
+    let mut state = State::busy();
     assert_eq!(state.allocate(1, 25), (75..100).collect::<Vec<u32>>());
 }
 
 #[test]
 fn cause_18_block_m_or_above() {
     for block in [100, 101, 4096, u32::MAX] {
-        assert_refused(&busy(), Error::BlockNumber, |s| deallocate(&mut s.memory, 1, block));
+        assert_refused(&State::busy(), Error::BlockNumber, |s| deallocate(&mut s.memory, 1, block));
     }
     let mut state = State::opened(4096);
     state.start(0);
@@ -271,7 +255,9 @@ fn cause_18_block_m_or_above() {
 fn cause_19_block_not_allocated() {
     // Never taken, taken by this transaction, taken by another one.
     for block in [99, 70, 73] {
-        assert_refused(&busy(), Error::BlockNotAllocated, |s| deallocate(&mut s.memory, 1, block));
+        assert_refused(&State::busy(), Error::BlockNotAllocated, |s| {
+            deallocate(&mut s.memory, 1, block)
+        });
     }
 }
 
@@ -279,13 +265,15 @@ fn cause_19_block_not_allocated() {
 fn cause_20_block_already_freed() {
     // Freed by this transaction and by another one.
     for block in [10, 20] {
-        assert_refused(&busy(), Error::BlockAlreadyFreed, |s| deallocate(&mut s.memory, 1, block));
+        assert_refused(&State::busy(), Error::BlockAlreadyFreed, |s| {
+            deallocate(&mut s.memory, 1, block)
+        });
     }
 }
 
 #[test]
 fn cause_21_line_not_in_form() {
-    let state = busy();
+    let state = State::busy();
     let mut bench = Bench::new();
     bench.memory = state.memory.clone();
     bench.disk.copy_from_slice(&state.disk);

@@ -3,26 +3,9 @@
 use crate::state::{assert_accepted, assert_refused, State};
 use reference::{commit, commit_cost, Error, Memory};
 
-/// 100 blocks; 70 are allocated; slot 1 is open and has touched both kinds, slot 2 is precommitted.
-/// 25 blocks are available.
-fn busy() -> State {
-    let mut state = State::opened(100);
-    state.start(0);
-    state.allocate(0, 70);
-    state.commit(0);
-    state.start(1);
-    state.start(2);
-    state.allocate(1, 3);
-    state.free(1, 10);
-    state.allocate(2, 2);
-    state.free(2, 20);
-    state.precommit(2);
-    state
-}
-
-/// The same with a commit of slot 2 pending.
+/// A busy state with a commit of slot 2 pending.
 fn pending() -> State {
-    let mut state = busy();
+    let mut state = State::busy();
     assert_eq!(commit(&mut state.memory, 2), Ok(8));
     state
 }
@@ -44,9 +27,9 @@ fn accepted(state: &State, slot: u32, count: u32) {
 
 #[test]
 fn cause_1_memory_not_valid() {
-    let mut zeros = busy();
+    let mut zeros = State::busy();
     zeros.memory = Memory::ZEROS;
-    let mut damaged = busy();
+    let mut damaged = State::busy();
     damaged.memory.com.words[1] ^= 1;
     for state in [zeros, damaged, invalid()] {
         for slot in [0, 1, 2, 8, u32::MAX] {
@@ -81,10 +64,10 @@ fn cause_8_work_pending() {
 fn cause_10_slot_above_7() {
     for slot in [8, 9, 256, u32::MAX] {
         for count in [0, 1, 26, 65, u32::MAX] {
-            refused(&busy(), Error::SlotNumber, slot, count);
+            refused(&State::busy(), Error::SlotNumber, slot, count);
         }
     }
-    let mut state = busy();
+    let mut state = State::busy();
     state.start(7);
     accepted(&state, 7, 0);
 }
@@ -93,7 +76,7 @@ fn cause_10_slot_above_7() {
 fn cause_12_slot_idle() {
     for slot in [0, 3, 7] {
         for count in [0, 1, 26, 65, u32::MAX] {
-            refused(&busy(), Error::SlotIdle, slot, count);
+            refused(&State::busy(), Error::SlotIdle, slot, count);
         }
     }
 }
@@ -101,9 +84,9 @@ fn cause_12_slot_idle() {
 #[test]
 fn cause_13_slot_precommitted() {
     for count in [0, 1, 26, 65, u32::MAX] {
-        refused(&busy(), Error::SlotPrecommitted, 2, count);
+        refused(&State::busy(), Error::SlotPrecommitted, 2, count);
     }
-    let mut state = busy();
+    let mut state = State::busy();
     state.precommit(1);
     refused(&state, Error::SlotPrecommitted, 1, 0);
 }
@@ -112,7 +95,7 @@ fn cause_13_slot_precommitted() {
 fn cause_15_count_above_64() {
     // 25 blocks are available, so for these counts cause 17 holds too.
     for count in [65, 66, 128, 256, 4096, 65_536, 1 << 31, u32::MAX] {
-        refused(&busy(), Error::Count, 1, count);
+        refused(&State::busy(), Error::Count, 1, count);
     }
     let mut state = State::opened(4096);
     state.start(6);
@@ -128,12 +111,12 @@ fn cause_15_count_above_64() {
 fn cause_17_fewer_available_blocks_than_the_count() {
     // Of 100 blocks 70 are allocated and 5 taken; the 2 being freed aren't available.
     for count in [26, 63, 64] {
-        refused(&busy(), Error::TooFewAvailable, 1, count);
+        refused(&State::busy(), Error::TooFewAvailable, 1, count);
     }
     for count in [0, 1, 25] {
-        accepted(&busy(), 1, count);
+        accepted(&State::busy(), 1, count);
     }
-    let mut full = busy();
+    let mut full = State::busy();
     full.allocate(1, 25);
     refused(&full, Error::TooFewAvailable, 1, 1);
     accepted(&full, 1, 0);
@@ -141,14 +124,14 @@ fn cause_17_fewer_available_blocks_than_the_count() {
 
 #[test]
 fn no_list_is_lent() {
-    let mut state = busy();
+    let mut state = State::busy();
     state.list.clear();
     accepted(&state, 1, 25);
 }
 
 #[test]
 fn the_disk_is_not_read() {
-    let mut state = busy();
+    let mut state = State::busy();
     let cost = commit_cost(&state.memory, 1, 3);
     state.disk.clear();
     assert_eq!(commit_cost(&state.memory, 1, 3), cost);

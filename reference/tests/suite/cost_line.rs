@@ -1,33 +1,13 @@
 //! The test line `cost`: its answer line, and that it prints and alters nothing more.
 
 use crate::costs::cost_by_blocks;
+use crate::state::BUSY_LINES;
 use reference::damage::Damage;
 use reference::inspector::Inspector;
 use reference::{program, Error};
 
-/// 40 blocks, of which 33 are allocated. Slot 1 has taken two, slot 2 has freed three in two words,
-/// slot 3 has touched nothing, slot 4 is precommitted. 5 blocks are available.
-const BUSY: &str = "op=format seat=0 n=40
-op=open seat=0 n=0
-op=start seat=0 n=0
-op=alloc seat=0 n=33
-op=pre seat=0 n=0
-op=commit seat=0 n=0
-op=store seat=0 n=0
-op=store seat=0 n=0
-op=store seat=0 n=0
-op=store seat=0 n=0
-op=store seat=0 n=0
-op=store seat=0 n=0
-op=store seat=0 n=0
-op=store seat=0 n=0
-op=start seat=1 n=0
-op=alloc seat=1 n=2
-op=start seat=2 n=0
-op=free seat=2 n=0
-op=free seat=2 n=31
-op=free seat=2 n=32
-op=start seat=3 n=0
+/// After the busy lines: slot 3 has touched nothing, slot 4 is precommitted.
+const MORE: &str = "op=start seat=3 n=0
 op=start seat=4 n=0
 op=pre seat=4 n=0
 ";
@@ -68,7 +48,7 @@ fn inspect(input: &str) -> String {
 
 /// Whether the line behind the busy state prints just this answer and this value.
 fn assert_prints(line: &str, answer: u32, value: u32) {
-    let output = inspect(&format!("{BUSY}{line}\n"));
+    let output = inspect(&format!("{BUSY_LINES}{MORE}{line}\n"));
     let start = output.find(&format!("call={NEXT_CALL} ")).unwrap();
     let expected = format!("call={NEXT_CALL} answer={answer} value={value}\n");
     assert_eq!(output[start..], expected, "{line}");
@@ -107,7 +87,8 @@ fn what_it_prints_when_refused() {
     ] {
         assert_prints(line, answer, 0);
     }
-    let output = inspect(&format!("{BUSY}op=pre seat=2 n=0\nop=commit seat=2 n=0\ncost 3 0\n"));
+    let output =
+        inspect(&format!("{BUSY_LINES}{MORE}op=pre seat=2 n=0\nop=commit seat=2 n=0\ncost 3 0\n"));
     assert!(output.ends_with("call=25 answer=0 value=8\ncall=26 answer=8 value=0\n"));
 }
 
@@ -121,7 +102,7 @@ fn lines_not_in_form_get_21() {
 
 #[test]
 fn it_needs_no_list_and_no_disk() {
-    let output = inspect(&format!("{BUSY}list 0\nlength 0\ncost 3 5\nshow\n"));
+    let output = inspect(&format!("{BUSY_LINES}{MORE}list 0\nlength 0\ncost 3 5\nshow\n"));
     assert!(output.contains("call=26 answer=0 value=8\ncall=27 answer=0 value=0\nblocks=40\n"));
     assert!(output.ends_with("disk length=0\nlist length=0\n"));
 }
@@ -130,7 +111,7 @@ fn it_needs_no_list_and_no_disk() {
 fn the_bench_program_does_not_know_it() {
     let mut output = Vec::new();
     let lines = "cost 1 0\nop=cost seat=1 n=0\nop=cost seat=1 n=64\n";
-    program::run(format!("{BUSY}{lines}").as_bytes(), &mut output).unwrap();
+    program::run(format!("{BUSY_LINES}{MORE}{lines}").as_bytes(), &mut output).unwrap();
     let expected =
         "call=24 answer=21 value=0\ncall=25 answer=21 value=0\ncall=26 answer=21 value=0\n";
     assert!(output.ends_with(expected.as_bytes()));

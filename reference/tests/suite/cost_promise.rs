@@ -1,10 +1,9 @@
 //! Document 02's promise: if the blocks are allocated and nothing else is touched, the commit makes
 //! at most as many stores as commit cost answers.
 
-use crate::state::State;
+use crate::state::{states_of, State};
 use crate::valid_memory::valid_memory;
 use reference::bench::Bench;
-use reference::history::{History, Shape};
 use reference::{
     allocate, commit, commit_cost, deallocate, precommit, rollback, start, store, Error, Memory,
     Pending, Random, SlotState, MAX_COUNT,
@@ -58,14 +57,7 @@ fn check_memory(random: &mut Random, memory: &Memory, kept: &mut Kept) {
 
 /// The states of a history in which nothing is pending and a slot is open.
 fn open_states(seed: u64, blocks: u32, lines: usize) -> impl Iterator<Item = Bench> {
-    let shape = Shape { blocks, malformed: false, reformats: false };
-    let mut bench = Bench::new();
-    let run = move |line: Vec<u8>| {
-        let _ = bench.run(&line);
-        bench.clone()
-    };
-    let states = History::new(seed, shape).unwrap().take(lines).map(run);
-    states.filter(|bench| {
+    states_of(seed, blocks, lines).filter(|bench| {
         bench.memory.pending == Pending::Nothing && !open_slots(&bench.memory).is_empty()
     })
 }

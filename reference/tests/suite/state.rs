@@ -1,9 +1,35 @@
 //! A memory, a disk and a list to make calls on.
 
+use reference::bench::Bench;
+use reference::history::{History, Shape};
 use reference::{
     allocate, commit, deallocate, format, open, precommit, start, store, Error, Memory, DISK_WORDS,
     MAX_COUNT,
 };
+
+/// 40 blocks, of which 33 are allocated. Slot 1 has taken two, slot 2 has freed three in two words.
+/// 5 blocks are available.
+pub const BUSY_LINES: &str = "op=format seat=0 n=40
+op=open seat=0 n=0
+op=start seat=0 n=0
+op=alloc seat=0 n=33
+op=pre seat=0 n=0
+op=commit seat=0 n=0
+op=store seat=0 n=0
+op=store seat=0 n=0
+op=store seat=0 n=0
+op=store seat=0 n=0
+op=store seat=0 n=0
+op=store seat=0 n=0
+op=store seat=0 n=0
+op=store seat=0 n=0
+op=start seat=1 n=0
+op=alloc seat=1 n=2
+op=start seat=2 n=0
+op=free seat=2 n=0
+op=free seat=2 n=31
+op=free seat=2 n=32
+";
 
 /// What stands in the list before an allocate, so that places written can be told from others.
 pub const UNWRITTEN: u32 = 0xdead_beef;
@@ -23,6 +49,23 @@ impl State {
         let opened = open(&disk);
         assert_eq!(opened.answer, Ok(0));
         State { memory: opened.memory, disk, list: vec![UNWRITTEN; MAX_COUNT as usize] }
+    }
+
+    /// 100 blocks; 70 are allocated; slot 1 is open and has touched both kinds, slot 2 is
+    /// precommitted. 25 blocks are available.
+    pub fn busy() -> State {
+        let mut state = State::opened(100);
+        state.start(0);
+        state.allocate(0, 70);
+        state.commit(0);
+        state.start(1);
+        state.start(2);
+        state.allocate(1, 3);
+        state.free(1, 10);
+        state.allocate(2, 2);
+        state.free(2, 20);
+        state.precommit(2);
+        state
     }
 
     pub fn start(&mut self, slot: u32) {
@@ -92,4 +135,15 @@ pub fn assert_accepted<Answer: std::fmt::Debug>(
     call: impl FnOnce(&mut State) -> Result<Answer, Error>,
 ) {
     assert_eq!(call(&mut state.clone()).err(), None);
+}
+
+/// The states of a history, one after each line.
+pub fn states_of(seed: u64, blocks: u32, lines: usize) -> impl Iterator<Item = Bench> {
+    let shape = Shape { blocks, malformed: false, reformats: false };
+    let mut bench = Bench::new();
+    let run = move |line: Vec<u8>| {
+        let _ = bench.run(&line);
+        bench.clone()
+    };
+    History::new(seed, shape).unwrap().take(lines).map(run)
 }

@@ -2,10 +2,9 @@
 
 use crate::comparison;
 use crate::counts::counts_by_blocks;
-use crate::state::{assert_accepted, assert_refused, State};
+use crate::state::{assert_accepted, assert_refused, states_of, State};
 use crate::valid_memory::valid_memory;
 use reference::bench::Bench;
-use reference::history::{History, Shape};
 use reference::line::parse;
 use reference::{
     allocate, status, Error, Ledger, Memory, Pending, Random, SlotState, Status, MAX_COUNT,
@@ -30,14 +29,7 @@ fn has_all_kinds(counts: &Status) -> bool {
 
 /// The states of a history whose memory is valid.
 fn valid_states(seed: u64, blocks: u32, lines: usize) -> impl Iterator<Item = Bench> {
-    let shape = Shape { blocks, malformed: false, reformats: false };
-    let mut bench = Bench::new();
-    let run = move |line: Vec<u8>| {
-        let _ = bench.run(&line);
-        bench.clone()
-    };
-    let states = History::new(seed, shape).unwrap().take(lines).map(run);
-    states.filter(|bench| bench.memory.is_valid())
+    states_of(seed, blocks, lines).filter(|bench| bench.memory.is_valid())
 }
 
 /// 20 blocks with 11 allocated, so that 9 were called free. Two clients have taken 7 of those.

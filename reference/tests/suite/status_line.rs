@@ -1,32 +1,10 @@
 //! The test line `status`: its answer line, what it prints behind it, and that it alters nothing.
 
 use crate::counts::printed;
+use crate::state::BUSY_LINES;
 use reference::damage::Damage;
 use reference::inspector::Inspector;
 use reference::{program, status, Error};
-
-/// 40 blocks, of which 33 are allocated. Slot 1 has taken two, slot 2 has freed three.
-const BUSY: &str = "op=format seat=0 n=40
-op=open seat=0 n=0
-op=start seat=0 n=0
-op=alloc seat=0 n=33
-op=pre seat=0 n=0
-op=commit seat=0 n=0
-op=store seat=0 n=0
-op=store seat=0 n=0
-op=store seat=0 n=0
-op=store seat=0 n=0
-op=store seat=0 n=0
-op=store seat=0 n=0
-op=store seat=0 n=0
-op=store seat=0 n=0
-op=start seat=1 n=0
-op=alloc seat=1 n=2
-op=start seat=2 n=0
-op=free seat=2 n=0
-op=free seat=2 n=31
-op=free seat=2 n=32
-";
 
 fn inspect(input: &str) -> String {
     let mut output = Vec::new();
@@ -36,7 +14,7 @@ fn inspect(input: &str) -> String {
 
 /// What the lines behind the busy state print.
 fn after_busy(lines: &str) -> String {
-    let output = inspect(&format!("{BUSY}{lines}"));
+    let output = inspect(&format!("{BUSY_LINES}{lines}"));
     let start = output.find("call=21 ").unwrap();
     output[start..].to_string()
 }

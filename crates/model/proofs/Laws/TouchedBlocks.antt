@@ -89,7 +89,7 @@ module _ (memory : Memory) (s : ℕ) (parts : ValidParts memory) (active : isAct
         changes-few (memory .sam .words) (committedSam memory s .words) is (bitmapOf-is (memory .blocks) _),
         count-past differ (memory .blocks) maxBlocks (parts .few-blocks) past,
         ap length (from-same differ (touched memory (slotAt memory s)) (memory .blocks) 0
-        (λ b l h. ap (λ (t : Bool). xor t (samBit memory b)) (committed-bits memory parts s active b))),
+            (λ b l h. ap (λ (t : Bool). xor t (samBit memory b)) (committed-bits memory parts s active b))),
       )
     where
       differ : ℕ → Bool
