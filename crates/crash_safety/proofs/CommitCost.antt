@@ -36,13 +36,13 @@ use Rattle.model.proofs.Laws.Accepted.{Ready, start-accepted, allocate-accepted
 use Rattle.model.specs.Outcome.{Call, outcome, openCall, startCall, allocateCall, deallocateCall, precommitCall, commitCall, rollbackCall, storeCall, statusCall, commitCostCall, crashCall}
 use Rattle.crash_safety.specs.World.{World, step, run, begin}
 use Rattle.crash_safety.specs.InOrder.{InUse}
-use Rattle.crash_safety.specs.CommitCost.{touchesFor, touchesIn, SameUse, CommitCostHolds}
+use Rattle.crash_safety.specs.CommitCost.{touchesFor, touchesIn, SameUse, CommitCostKeptInUse, CommitCostHolds}
 use Rattle.crash_safety.proofs.Invariant.{Invariant}
 use Rattle.crash_safety.proofs.Keeps.{step-keeps, run-keeps, begins-formatted}
 use Rattle.crash_safety.proofs.InOrder.Always.{step-uses, run-in-order}
 use Rattle.crash_safety.proofs.Crash.{zero-invalid}
 use Rattle.model.proofs.Laws.TouchedBlocks.{changed-touched, changed-words}
-use Rattle.model.proofs.Laws.CommitCost.{due-within, due-answered}
+use Rattle.model.proofs.Laws.CommitCost.{due-within, due-answered, commit-cost-kept}
 use Rattle.model.proofs.Laws.TouchedBy.{active-touched, Touches, started-touches, taking-touches, freeing-touches, precommitting-touches, rolled-back-touches, pending-touches, committed-touches}
 
 -- ---- a call that is refused or not
@@ -203,7 +203,7 @@ run-touches s (call ∷ calls) w same i c =
       touches = record { few = omega (arith, first .few, rest .touches .few); volume = rest .touches .volume ∙ first .volume };
     }
 
--- ---- the theorem
+-- ---- the theorems
 
 -- of a world in use
 module _ (s count : ℕ) (w : World) (i : Invariant w) (c : InUse w) (a : CommitCostAccepted (w .memory) s count) where
@@ -230,6 +230,17 @@ module _ (s count : ℕ) (w : World) (i : Invariant w) (c : InUse w) (a : Commit
         within,
       ))
       words-after)
+
+pub commit-cost-kept-in-use : CommitCostKeptInUse
+unfolding commitCostAnswer
+commit-cost-kept-in-use blocks some-blocks few disk size calls s count cost answered =
+    let first : World = begin (formatDisk disk blocks) in
+    let memory : Memory = run calls first .memory in
+    let told = due-answered (commitCostError memory s count) (commitCost memory s count) cost answered in
+    let is-valid = commit-cost-accepted memory s count (told .0) .ready .is-valid in
+    commit-cost-kept memory is-valid
+    (run-keeps calls first (begins-formatted blocks some-blocks few disk size) .related is-valid .sam)
+    s count cost answered
 
 pub commit-cost-holds : CommitCostHolds
 unfolding commitCostAnswer commitAnswer

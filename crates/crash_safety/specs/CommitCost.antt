@@ -8,6 +8,7 @@ use lib.Dec.{eqb}
 use Rattle.model_types.specs.declared.answer.StoresAnswer.{StoresAnswer}
 use Rattle.model.specs.Calls.Committing.{commitAnswer}
 use Rattle.model.specs.Calls.CommitCost.{commitCostAnswer}
+use Rattle.model.specs.CostKept.{CostKept}
 use Rattle.model.specs.Outcome.{Call, outcome, openCall, startCall, allocateCall, deallocateCall, precommitCall, commitCall, rollbackCall, storeCall, statusCall, commitCostCall, crashCall}
 use Rattle.crash_safety.specs.World.{World, step, run}
 use Rattle.crash_safety.specs.InOrder.{AfterEvery}
@@ -38,7 +39,13 @@ abbrev pub SameUse : List Call → Type 0
 SameUse [] = Unit {0}
 SameUse (call ∷ calls) = (call ≡ openCall → ⊥) × (call ≡ crashCall → ⊥) × SameUse calls
 
--- after every list of calls: where commit cost answers so many for a slot and a count, and calls of any slots follow that touch
+-- after every list of calls: where commit cost answers so many for a slot and a count, the calls right behind it are accepted,
+-- and the commit answers at most so many
+abbrev pub CommitCostKeptInUse : Type 0
+CommitCostKeptInUse =
+    AfterEvery (λ w. (s count cost : ℕ) → commitCostAnswer (w .memory) s count ≡ StoresAnswer.Due cost → CostKept (w .memory) s count cost)
+
+-- and after every list of calls: where commit cost answers so many for a slot and a count, and calls of any slots follow that touch
 -- no more than the count for this slot, then its commit, if it is accepted, answers at most so many
 abbrev pub CommitCostHolds : Type 0
 CommitCostHolds =
