@@ -4,7 +4,7 @@ use native.Mathlib.Omega.{arith}
 use mathlib.Core.Path.{_≡_, refl, sym, ap, _∙_, subst}
 use mathlib.Core.Bool.{false, false≢true}
 use mathlib.Core.Option.{Option, none}
-use mathlib.Core.List.{List}
+use mathlib.Core.List.{List, [], _∷_}
 use lib.ListN.{getD, replicate}
 use Rattle.bitmap.specs.Sizes.{slotCount, blocksInRange}
 use Rattle.bitmap.specs.Bits.{bit}
@@ -19,10 +19,10 @@ use Rattle.model_types.specs.Answers.{storesNumber}
 use Rattle.model.specs.Valid.{valid}
 use Rattle.model.specs.Disk.{diskBlocks, logLength, durable}
 use Rattle.model.specs.Calls.Opening.{openError, recoveryDue, recoveryPending, opened, openAnswer, openMemory}
-use Rattle.model.specs.Outcome.{outcome, openCall, statusCall, commitCostCall, crashCall}
+use Rattle.model.specs.Outcome.{Outcome, outcome, openCall, statusCall, commitCostCall, crashCall}
 use Rattle.model.proofs.Laws.Numbers.{numberOf, stores-number}
 use Rattle.model.proofs.Laws.Durable.{durable-length}
-use Rattle.crash_safety.specs.Ledger.{Event, Sets, noSets, Ledger, emptied, entered, enter, enterAll, crashEvent, holders, opening}
+use Rattle.crash_safety.specs.Ledger.{Event, Sets, noSets, Ledger, emptied, entered, enter, enterAll, crashEvent, holders, opening, asking}
 use Rattle.crash_safety.specs.World.{World, worldOf, eventOf, events, step}
 use Rattle.crash_safety.proofs.Holders.{one-le, takers-crashed}
 use Rattle.crash_safety.proofs.Invariant.{Tied, Plain, PendingTied, Invariant, same-disk}
@@ -113,12 +113,14 @@ open-keeps w i =
 -- ---- status and commit cost
 
 module _ (w : World) where
+  -- a question
+  asked-keeps : (s : ℕ) (after : Outcome) → Invariant w → Invariant (worldOf (w .memory) (w .disk) (enterAll (eventOf asking s 0 after ∷ []) (w .ledger)))
+  asked-keeps s after i = subst (λ (l : Ledger). Invariant (worldOf (w .memory) (w .disk) l)) (sym (asked-nothing s after (w .ledger))) i
+
   pub status-keeps : Invariant w → Invariant (step statusCall w)
   unfolding step events outcome
-  status-keeps i =
-      subst (λ (l : Ledger). Invariant (worldOf (w .memory) (w .disk) l)) (sym (asked-nothing 0 (outcome statusCall (w .memory) (w .disk)) (w .ledger))) i
+  status-keeps = asked-keeps 0 (outcome statusCall (w .memory) (w .disk))
 
   pub commit-cost-keeps : (s count : ℕ) → Invariant w → Invariant (step (commitCostCall s count) w)
   unfolding step events outcome
-  commit-cost-keeps s count i =
-      subst (λ (l : Ledger). Invariant (worldOf (w .memory) (w .disk) l)) (sym (asked-nothing s (outcome (commitCostCall s count) (w .memory) (w .disk)) (w .ledger))) i
+  commit-cost-keeps s count = asked-keeps s (outcome (commitCostCall s count) (w .memory) (w .disk))

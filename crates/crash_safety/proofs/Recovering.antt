@@ -6,9 +6,9 @@ use mathlib.Core.Option.{Option, none}
 use mathlib.Core.List.{List, [], _∷_}
 use lib.ListN.{replicate}
 use lib.Dec.{eqb}
-use Rattle.model.specs.Outcome.{Call, outcome, openCall, startCall, allocateCall, deallocateCall, precommitCall, commitCall, rollbackCall, storeCall, statusCall, commitCostCall, crashCall}
-use Rattle.crash_safety.specs.Ledger.{Ledger, Counting, emptied, enter, entered, enterAll, stores}
-use Rattle.crash_safety.specs.World.{World, events, step, run}
+use Rattle.model.specs.Outcome.{Call, Outcome, outcome, openCall, startCall, allocateCall, deallocateCall, precommitCall, commitCall, rollbackCall, storeCall, statusCall, commitCostCall, crashCall}
+use Rattle.crash_safety.specs.Ledger.{Ledger, Counting, emptied, enter, entered, enterAll, stores, asking}
+use Rattle.crash_safety.specs.World.{World, eventOf, events, step, run}
 use Rattle.crash_safety.proofs.Refused.{asked-nothing}
 
 -- opens, stores, crashes and questions, in any order
@@ -62,13 +62,17 @@ module _ (allocated : List ℕ) (w : World) where
         go true = subst (λ (c : Option Counting). Settled allocated (stores (w .ledger) c)) (sym (s .uncounted)) s
         go false = s
 
+    -- a question settles nothing and unsettles nothing
+    asked-settled : (slot : ℕ) (after : Outcome) → Settled allocated (enterAll (eventOf asking slot 0 after ∷ []) (w .ledger))
+    asked-settled slot after = subst (Settled allocated) (sym (asked-nothing slot after (w .ledger))) s
+
     status-settled : Settled allocated (step statusCall w .ledger)
     unfolding step events
-    status-settled = subst (Settled allocated) (sym (asked-nothing 0 (outcome statusCall (w .memory) (w .disk)) (w .ledger))) s
+    status-settled = asked-settled 0 (outcome statusCall (w .memory) (w .disk))
 
     cost-settled : (slot count : ℕ) → Settled allocated (step (commitCostCall slot count) w .ledger)
     unfolding step events
-    cost-settled slot count = subst (Settled allocated) (sym (asked-nothing slot (outcome (commitCostCall slot count) (w .memory) (w .disk)) (w .ledger))) s
+    cost-settled slot count = asked-settled slot (outcome (commitCostCall slot count) (w .memory) (w .disk))
 
 step-settled : (call : Call) (w : World) (allocated : List ℕ) → Recovers call → Settled allocated (w .ledger) → Settled allocated (step call w .ledger)
 step-settled openCall w allocated r s = open-settles allocated w (s .same)

@@ -38,11 +38,7 @@ fn disk_with_log(log_length: u32, log: &[u32]) -> Vec<u32> {
 
 #[test]
 fn cause_1_memory_not_valid() {
-    let mut zeros = State::busy();
-    zeros.memory = Memory::ZEROS;
-    let mut damaged = State::busy();
-    damaged.memory.com.words[1] ^= 1;
-    for state in [zeros, damaged] {
+    for state in State::not_valid() {
         assert_six_refused(&state, Error::InvalidMemory, 1);
         assert_refused(&state, Error::InvalidMemory, |s| store(&mut s.memory, &mut s.disk));
         assert_refused(&state, Error::InvalidMemory, |s| status(&s.memory));

@@ -1,7 +1,7 @@
 //! Each cause of commit cost, with all left as it was, and the first cause where several hold.
 
 use crate::state::{assert_accepted, assert_refused, State};
-use reference::{commit, commit_cost, Error, Memory};
+use reference::{commit, commit_cost, Error};
 
 /// A busy state with a commit of slot 2 pending.
 fn pending() -> State {
@@ -27,11 +27,7 @@ fn accepted(state: &State, slot: u32, count: u32) {
 
 #[test]
 fn cause_1_memory_not_valid() {
-    let mut zeros = State::busy();
-    zeros.memory = Memory::ZEROS;
-    let mut damaged = State::busy();
-    damaged.memory.com.words[1] ^= 1;
-    for state in [zeros, damaged, invalid()] {
+    for state in State::not_valid().into_iter().chain([invalid()]) {
         for slot in [0, 1, 2, 8, u32::MAX] {
             for count in [0, 1, 64, 65, u32::MAX] {
                 refused(&state, Error::InvalidMemory, slot, count);

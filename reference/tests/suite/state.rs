@@ -68,6 +68,15 @@ impl State {
         state
     }
 
+    /// Busy states whose memory isn't valid: that of zeros, and one with a bit of COM turned.
+    pub fn not_valid() -> [State; 2] {
+        let mut zeros = State::busy();
+        zeros.memory = Memory::ZEROS;
+        let mut damaged = State::busy();
+        damaged.memory.com.words[1] ^= 1;
+        [zeros, damaged]
+    }
+
     pub fn start(&mut self, slot: u32) {
         assert_eq!(start(&mut self.memory, slot), Ok(()));
     }

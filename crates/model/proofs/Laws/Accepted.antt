@@ -9,7 +9,7 @@ use lib.ListN.{length}
 use lib.Dec.{leb, eqb}
 use borrow.Author.Tests.{leb-true, leb-false, ltb-true, ltb-false, lt-ltb, le-ltb, eqb-true, eq-eqb, not-false}
 use Rattle.bitmap.specs.Sizes.{slotCount, maxCount, blocksInRange, countInRange, slotInRange}
-use Rattle.model.specs.Types.{Pending, Nothing, Commit, Recovery, Memory, CountRange, TooFewAvailable}
+use Rattle.model.specs.Types.{Pending, Nothing, Commit, Recovery, Memory, SlotPrecommitted, SlotNotPrecommitted, CountRange, TooFewAvailable}
 use Rattle.model.specs.Sizes.{diskWords}
 use Rattle.model_types.specs.Memory.{slotAt, isActive, isPrecommitted, samBit, comBit}
 use Rattle.model.specs.Valid.{valid}
@@ -153,6 +153,24 @@ module _ (memory : Memory) (s : ℕ) where
         unfreed = both-set (samBit memory block) (comBit memory block) allocated (c20 .0);
       }
 
+  pub record RollbackAccepted : Type 0 where
+    pub ready : Ready memory s
+    pub active : isActive (slotAt memory s .state) ≡ true
+
+  pub rollback-accepted : rollbackError memory s ≡ none → RollbackAccepted
+  unfolding rollbackError
+  rollback-accepted e =
+      let c1 = first-none _ e in
+      let c8 = c1 .1 in
+      let c10 = c8 .1 in
+      let c12 = c10 .1 in
+      record { ready = ready-of memory s (c1 .0) (c8 .0) (c10 .0); active = slot-active memory s (c12 .0) }
+
+  -- and the other way round: the causes with which the lists of all calls but start begin
+  accepted-rollback : RollbackAccepted → rollbackError memory s ≡ none
+  unfolding rollbackError first firstOr memoryInvalid workPending nothingPending isNothing slotOutOfRange slotInRange slotInactive slotActive
+  accepted-rollback a = rw (a .ready .is-valid, a .ready .nothing-pending, lt-ltb s slotCount (a .ready .below), a .active)
+
   pub record PrecommitAccepted : Type 0 where
     pub ready : Ready memory s
     pub active : isActive (slotAt memory s .state) ≡ true
@@ -170,15 +188,10 @@ module _ (memory : Memory) (s : ℕ) where
 
   -- and the other way round
   pub accepted-precommit : PrecommitAccepted → precommitError memory s ≡ none
-  unfolding precommitError first firstOr memoryInvalid workPending nothingPending isNothing slotOutOfRange slotInRange slotInactive slotActive slotPrecommitted
+  unfolding rollbackError precommitError slotPrecommitted
   accepted-precommit a =
-      rw (
-        a .ready .is-valid,
-        a .ready .nothing-pending,
-        lt-ltb s slotCount (a .ready .below),
-        a .active,
-        a .not-precommitted,
-      )
+      none-append _ (slotPrecommitted memory s ⇒ SlotPrecommitted ∷ []) (accepted-rollback (record { ready = a .ready; active = a .active }))
+      ∙ none-first _ (a .not-precommitted, tt)
 
   pub record CommitCostAccepted (count : ℕ) : Type 0 where
     pub ready : Ready memory s
@@ -234,28 +247,10 @@ module _ (memory : Memory) (s : ℕ) where
 
   -- and the other way round
   pub accepted-commit : CommitAccepted → commitError memory s ≡ none
-  unfolding commitError first firstOr memoryInvalid workPending nothingPending isNothing slotOutOfRange slotInRange slotInactive slotActive slotNotPrecommitted slotPrecommitted
+  unfolding rollbackError commitError slotNotPrecommitted slotPrecommitted
   accepted-commit a =
-      rw (
-        a .ready .is-valid,
-        a .ready .nothing-pending,
-        lt-ltb s slotCount (a .ready .below),
-        a .active,
-        a .precommitted,
-      )
-
-  pub record RollbackAccepted : Type 0 where
-    pub ready : Ready memory s
-    pub active : isActive (slotAt memory s .state) ≡ true
-
-  pub rollback-accepted : rollbackError memory s ≡ none → RollbackAccepted
-  unfolding rollbackError
-  rollback-accepted e =
-      let c1 = first-none _ e in
-      let c8 = c1 .1 in
-      let c10 = c8 .1 in
-      let c12 = c10 .1 in
-      record { ready = ready-of memory s (c1 .0) (c8 .0) (c10 .0); active = slot-active memory s (c12 .0) }
+      none-append _ (slotNotPrecommitted memory s ⇒ SlotNotPrecommitted ∷ []) (accepted-rollback (record { ready = a .ready; active = a .active }))
+      ∙ none-first _ (ap not (a .precommitted), tt)
 
 -- ---- store
 

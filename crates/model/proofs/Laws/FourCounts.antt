@@ -6,18 +6,20 @@ use mathlib.Core.Option.{Option, none, some}
 use mathlib.Core.List.{List, [], _∷_}
 use lib.ListN.{length}
 use borrow.Author.Tests.{le-leb, lt-ltb, le-ltb}
-use Rattle.bitmap.specs.Sizes.{slotCount, maxCount, slotInRange, countInRange}
+use Rattle.bitmap.specs.Sizes.{maxCount, countInRange}
 use Rattle.bitmap.proofs.Laws.Count.{allocated-parts, four-kinds}
-use Rattle.model.specs.Types.{Memory, Error, GrantAnswer, MemoryInvalid, TooFewAvailable}
+use Rattle.model.specs.Types.{Memory, Error, GrantAnswer, MemoryInvalid, CountRange, ListShort, TooFewAvailable}
 use Rattle.model_types.specs.Answers.{granted, counted}
-use Rattle.model_types.specs.Pending.{isNothing}
 use Rattle.model.specs.First.{first, firstOr, _⇒_}
 use Rattle.model.specs.Valid.{valid}
-use Rattle.model.specs.Causes.{memoryInvalid, nothingPending, workPending, slotOutOfRange, slotActive, slotInactive, slotPrecommitted, countOutOfRange, listShort, available, tooFewAvailable}
+use Rattle.model.specs.Causes.{memoryInvalid, countOutOfRange, listShort, available, tooFewAvailable}
 use Rattle.model.specs.Calls.Allocate.{allocateError, allocateAnswer}
 use Rattle.model.specs.Calls.Status.{statusError, allocated, counts, statusAnswer}
 use Rattle.model.specs.FourCounts.{StatusAnswersCounts, FourAddUp, AllocatedIsFreeingAndHeld, AvailableIsCompared, Eligible, AvailableCanBeHad}
-use Rattle.model.proofs.Laws.First.{other-passed, none-first}
+use Rattle.model.specs.Calls.Precommit.{precommitError}
+use Rattle.model_types.specs.Memory.{isActive, isPrecommitted}
+use Rattle.model.proofs.Laws.First.{cause-passed, other-passed, none-first, none-append}
+use Rattle.model.proofs.Laws.Accepted.{PrecommitAccepted, accepted-precommit}
 
 pub status-answers-counts : StatusAnswersCounts
 unfolding statusAnswer statusError memoryInvalid counted
@@ -37,7 +39,12 @@ available-is-compared memory is-valid count = refl
 
 -- ---- an allocate and cause 17
 
--- the last cause of a list holds if the list has its error
+-- the last cause of a list decides
+last-decides : (holds : Bool) (error : Error) → first (holds ⇒ error ∷ []) ≡ firstOr holds error none
+unfolding first
+last-decides holds error = refl
+
+-- it holds if the list has its error
 last-holds : (holds : Bool) (error : Error) → first (holds ⇒ error ∷ []) ≡ some error → holds ≡ true
 unfolding first firstOr
 last-holds true error e = refl
@@ -60,17 +67,20 @@ module _ (memory : Memory) (s count : ℕ) (list : List ℕ) where
   -- of an eligible one no cause before it holds, and 17 decides
   decides : valid memory ≡ true → Eligible memory s count list
       → allocateError memory s count list ≡ firstOr (tooFewAvailable memory count) TooFewAvailable none
-  unfolding allocateError first firstOr memoryInvalid workPending nothingPending isNothing slotOutOfRange slotInRange slotInactive slotActive slotPrecommitted countOutOfRange countInRange listShort
+  unfolding allocateError precommitError countOutOfRange countInRange listShort
   decides is-valid eligible =
-      rw (
-        is-valid,
-        eligible .nothing-pending,
-        lt-ltb s slotCount (eligible .below),
-        eligible .is-open,
-        le-leb 1 count (eligible .some),
-        le-leb count maxCount (eligible .few),
-        le-ltb (length list) count (eligible .room),
-      )
+      none-append _ _ (accepted-precommit memory s open-slot)
+      ∙ cause-passed (countOutOfRange count) CountRange _ (rw (le-leb 1 count (eligible .some), le-leb count maxCount (eligible .few)))
+      ∙ cause-passed (listShort list count) ListShort _ (le-ltb (length list) count (eligible .room))
+      ∙ last-decides (tooFewAvailable memory count) TooFewAvailable
+    where
+      open-slot : PrecommitAccepted memory s
+      open-slot =
+          record {
+            ready = record { is-valid = is-valid; nothing-pending = eligible .nothing-pending; below = eligible .below };
+            active = ap isActive (eligible .is-open);
+            not-precommitted = ap isPrecommitted (eligible .is-open);
+          }
 
 -- an answer that is a refusal has its error
 error-of : (error : Option Error) (block : ℕ) (by : Error) → granted error block ≡ GrantAnswer.Refused by → error ≡ some by
