@@ -3,4 +3,3 @@ pub mod Count
 pub mod Tally
 pub mod Differing
 pub mod Available
-pub mod Whole

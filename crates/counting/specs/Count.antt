@@ -1,11 +1,11 @@
--- Blocks counted: by their bits in two bitmaps, and the available ones in words that a volume fills.
-use Prim.Native.Nat.{ℕ, _+_, _*_, _≤_, _<_}
+-- Blocks counted: by their bits in two bitmaps, and the available ones from a word on.
+use Prim.Native.Nat.{ℕ, _*_}
 use mathlib.Core.Path.{_≡_}
 use mathlib.Core.Bool.{Bool, xor}
 use mathlib.Core.List.{List}
 use lib.ListN.{length}
-use Rattle.bitmap.specs.Sizes.{maxBlocks, wordBits, bitmapWords}
-use Rattle.bitmap.specs.Bits.{bit, IsBitmap}
+use Rattle.bitmap.specs.Sizes.{maxBlocks, wordBits}
+use Rattle.bitmap.specs.Bits.{bit}
 use Rattle.bitmap.specs.Blocks.{from, allocatedBlocks, allocatingBlocks, freeingBlocks}
 use Rattle.available.specs.Available.{availableFrom}
 use Rattle.counting.specs.declared.Tally.{Tally}
@@ -27,14 +27,3 @@ countDiffering left right = length (from (differing left right) maxBlocks 0)
 -- how many available blocks there are from word k on
 abbrev pub countFrom : ℕ → List ℕ → List ℕ → ℕ → ℕ
 countFrom m sam «com» k = length (availableFrom m sam «com» (wordBits * k))
-
--- two bitmaps, and some words of theirs, from lo up to hi
-pub record CanCount (sam «com» : List ℕ) (lo hi : ℕ) : Type 0 where
-  pub isSam : IsBitmap sam
-  pub isCom : IsBitmap «com»
-  pub some : lo < hi
-  pub within : hi ≤ bitmapWords
-
--- these words have r available blocks, in every volume that fills them
-pub record IsCount (sam «com» : List ℕ) (lo hi r : ℕ) : Type 0 where
-  pub inVolume : (m : ℕ) → wordBits * hi ≤ m → r + countFrom m sam «com» hi ≡ countFrom m sam «com» lo

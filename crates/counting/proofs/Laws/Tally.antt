@@ -16,9 +16,9 @@ use Rattle.bitmap.proofs.Laws.Bits.{bit-word, bit-beyond}
 use Rattle.bitmap.proofs.Laws.Blocks.{from-end, from-length}
 use Rattle.counting.proofs.Laws.Count.{count-word}
 
--- a count of the blocks before word k at which a test holds
-pub record Counted (test : ℕ → Bool) (k count : ℕ) : Type 0 where
-  pub rest : count + length (from test maxBlocks (wordBits * k)) ≡ length (from test maxBlocks 0)
+-- a count of the blocks before word k at which a test holds, of those below m
+pub record Counted (m : ℕ) (test : ℕ → Bool) (k count : ℕ) : Type 0 where
+  pub rest : count + length (from test m (wordBits * k)) ≡ length (from test m 0)
 
 -- a word whose bits are the test's
 pub record IsWord (test : ℕ → Bool) (k word : ℕ) : Type 0 where
@@ -27,31 +27,31 @@ pub record IsWord (test : ℕ → Bool) (k word : ℕ) : Type 0 where
   pub past : (b : ℕ) → maxBlocks ≤ b → test b ≡ false
 
 module _ {test : ℕ → Bool} {k count : ℕ} where
-  -- a count is no larger than a bitmap
-  pub counted-few : Counted test k count → count ≤ maxBlocks
-  counted-few counted = omega (arith, counted .rest, from-length test maxBlocks 0)
+  -- a count is no larger than the blocks
+  pub counted-few : {m : ℕ} → Counted m test k count → count ≤ m
+  counted-few {m} counted = omega (arith, counted .rest, from-length test m 0)
 
   -- with the ones of word k it is one of the next word
-  pub counted-word : {word : ℕ} → IsWord test k word → Counted test k count → Counted test (k + 1) (count + ones word)
+  pub counted-word : {word : ℕ} → IsWord test k word → Counted maxBlocks test k count → Counted maxBlocks test (k + 1) (count + ones word)
   counted-word {word} is counted =
       let next : wordBits * (k + 1) ≡ wordBits * k + 32 = omega arith in
       record { rest = rw next (omega (arith, counted .rest, count-word test maxBlocks (is .past) 32 word (wordBits * k) (is .small) (is .bits))) }
 
   -- behind the last word all are counted
-  pub counted-all : Counted test k count → bitmapWords ≤ k → count ≡ length (from test maxBlocks 0)
+  pub counted-all : Counted maxBlocks test k count → bitmapWords ≤ k → count ≡ length (from test maxBlocks 0)
   counted-all counted l = omega (arith, counted .rest, ap length (from-end test maxBlocks (wordBits * k) (omega arith)))
 
 -- before the first there is none
-pub counted-none : (test : ℕ → Bool) → Counted test 0 0
+pub counted-none : {m : ℕ} (test : ℕ → Bool) → Counted m test 0 0
 counted-none test = record { rest = omega arith }
 
 -- ---- the three counts
 
 -- counts of the blocks before word k that are allocated, being allocated and being freed
 pub record Tallied (sam «com» : List ℕ) (k a b c : ℕ) : Type 0 where
-  pub allocated : Counted (bit sam) k a
-  pub allocating : Counted (isAllocating sam «com») k b
-  pub freeing : Counted (isFreeing sam «com») k c
+  pub allocated : Counted maxBlocks (bit sam) k a
+  pub allocating : Counted maxBlocks (isAllocating sam «com») k b
+  pub freeing : Counted maxBlocks (isFreeing sam «com») k c
 
 pub tallied-none : (sam «com» : List ℕ) → Tallied sam «com» 0 0 0 0
 tallied-none sam «com» =

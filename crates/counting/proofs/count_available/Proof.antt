@@ -1,38 +1,103 @@
--- `counting::count_available` meets its contract: the words that the volume fills, and the blocks after them.
+-- `counting::count_available` meets its contract. The loop's invariant: the available blocks of the words before k are
+-- counted.
+use Prim.Native.Nat.{_+_, _-_, _/_, _^_, _≤_, _<_}
 use native.Mathlib.Omega.{arith}
+use mathlib.Core.Path.{_≡_}
+use lib.ListN.{length, getD}
+use lib.Bits.{bitOr}
+use lib.Count.{ones}
 use borrow.Author.Needs.{needs}
+use Rattle.bitmap.specs.Sizes.{wordBits}
 use Rattle.bitmap.specs.Blocks.{isAvailable, availableBlocks}
 use Rattle.bitmap.proofs.Laws.Blocks.{from-length}
+use Rattle.counting.proofs.Laws.Tally.{Counted, counted-few, counted-none}
+use Rattle.counting.proofs.Laws.Available.{counted-available}
 use Rattle.counting.proofs.count_available.Statement.{statement}
 use Rattle.counting.proofs.count_available.Tie as tie
 
-count-rest-requires : tie.Need-count-rest-requires
+abbrev Inv-loop : tie.InvT-loop
+Inv-loop sam «com» blocks whole count₀ k₀ count k = (k ≤ whole) × Counted blocks (isAvailable sam «com») k count
+
+abbrev μ-loop : tie.MeasureT-loop
+μ-loop sam «com» blocks whole count₀ k₀ count k = whole - k
+
+-- the count with word k, as a law of the bitmaps tells it
+next : (l : tie.At-loop Inv-loop μ-loop)
+    → let a = l .before .args in
+    let k = l .loop .k in
+    k < a .blocks / wordBits
+    → Counted (a .blocks) (isAvailable (a .sam .now) (a .«com» .now)) (k + 1)
+    (l .loop .count + ones (2 ^ 32 - 1 - bitOr (getD (a .sam .now) k 0) (getD (a .«com» .now) k 0)))
+next l h = counted-available (l .before .pre .0) (l .before .pre .1 .0) (omega arith) (l .loop .inv .1)
+
+cast-whole : tie.Need-cast-whole Inv-loop μ-loop
+cast-whole c = search needs
+
+loop-holds : tie.Need-loop-holds Inv-loop μ-loop
+loop-holds c = (search needs, counted-none _)
+
+mul-count : tie.Need-mul-count Inv-loop μ-loop
+mul-count c = search needs
+
+element-copy-out-count : tie.Need-element-copy-out-count Inv-loop μ-loop
+element-copy-out-count c = search needs
+
+mul-count-2 : tie.Need-mul-count-2 Inv-loop μ-loop
+mul-count-2 c = search needs
+
+element-copy-out-count-2 : tie.Need-element-copy-out-count-2 Inv-loop μ-loop
+element-copy-out-count-2 c = search needs
+
+add-count : tie.Need-add-count Inv-loop μ-loop
+add-count c = omega (arith, counted-few (next (c .before .before .before) (omega arith)))
+
+add-k : tie.Need-add-k Inv-loop μ-loop
+add-k c = search needs
+
+loop-less : tie.Need-loop-less Inv-loop μ-loop
+loop-less c = search needs
+
+loop-again : tie.Need-loop-again Inv-loop μ-loop
+loop-again c = (search needs, next (c .before .before .before) (omega arith))
+
+count-rest-requires : tie.Need-count-rest-requires Inv-loop μ-loop
 count-rest-requires c κs = search needs
 
-returns : tie.Need-returns
+-- the words that the volume fills, and the rest, are all
+all : (c : tie.After-count-rest Inv-loop μ-loop)
+    → let a = c .before .before .before .args in
+    c .before .before .loop .count + c .count-rest .result ≡ length (availableBlocks (a .blocks) (a .sam .now) (a .«com» .now))
 unfolding availableBlocks
-returns c = rw (c .if1 .taken) at (c .before .count-rest .ensures)
+all c =
+    let l = c .before .before .loop in
+    let end : l .k ≡ c .before .before .before .args .blocks / 32 = omega arith in
+    omega (arith, rw end at (l .inv .1 .rest), c .count-rest .ensures)
 
-cast-count-words : tie.Need-cast-count-words
-cast-count-words c = search needs
-
-count-words-requires : tie.Need-count-words-requires
-count-words-requires c κs = search needs
-
-add-result : tie.Need-add-result
+add-result : tie.Need-add-result Inv-loop μ-loop
+unfolding availableBlocks
 add-result c =
     let a = c .before .before .before .args in
-    omega (
-      arith,
-      c .count-words .ensures .inVolume (a .blocks) (omega arith),
-      from-length (isAvailable (a .sam .now) (a .«com» .now)) (a .blocks) 0,
-    )
+    omega (arith, all c, from-length (isAvailable (a .sam .now) (a .«com» .now)) (a .blocks) 0)
 
-returns-2 : tie.Need-returns-2
-unfolding availableBlocks
-returns-2 c = omega (arith, c .count-words .ensures .inVolume (c .before .before .before .args .blocks) (omega arith))
+returns : tie.Need-returns Inv-loop μ-loop
+returns c = all c
 
 pub count-available-spec : {M : Type 1} → statement M
 count-available-spec =
     tie.close
-    (tie.spec count-rest-requires returns cast-count-words count-words-requires add-result returns-2)
+    (tie.spec
+    Inv-loop
+    μ-loop
+    cast-whole
+    loop-holds
+    mul-count
+    element-copy-out-count
+    mul-count-2
+    element-copy-out-count-2
+    add-count
+    add-k
+    loop-less
+    loop-again
+    count-rest-requires
+    add-result
+    returns)

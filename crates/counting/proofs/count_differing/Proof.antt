@@ -5,7 +5,7 @@ use lib.ListN.{getD}
 use lib.Bits.{bitXor}
 use lib.Count.{ones}
 use borrow.Author.Needs.{needs}
-use Rattle.bitmap.specs.Sizes.{bitmapWords}
+use Rattle.bitmap.specs.Sizes.{maxBlocks, bitmapWords}
 use Rattle.counting.specs.Count.{differing}
 use Rattle.counting.proofs.Laws.Tally.{Counted, counted-few, counted-word, counted-all, counted-none}
 use Rattle.counting.proofs.Laws.Differing.{differing-word}
@@ -13,7 +13,7 @@ use Rattle.counting.proofs.count_differing.Statement.{statement}
 use Rattle.counting.proofs.count_differing.Tie as tie
 
 abbrev Inv-loop : tie.InvT-loop
-Inv-loop left right count₀ i₀ count i = (i ≤ bitmapWords) × Counted (differing left right) i count
+Inv-loop left right count₀ i₀ count i = (i ≤ bitmapWords) × Counted maxBlocks (differing left right) i count
 
 abbrev μ-loop : tie.MeasureT-loop
 μ-loop left right count₀ i₀ count i = bitmapWords - i
@@ -23,7 +23,7 @@ next : (l : tie.At-loop Inv-loop μ-loop)
     → let left = l .before .args .left .now in
     let right = l .before .args .right .now in
     let i = l .loop .i in
-    Counted (differing left right) (i + 1) (l .loop .count + ones (bitXor (getD left i 0) (getD right i 0)))
+    Counted maxBlocks (differing left right) (i + 1) (l .loop .count + ones (bitXor (getD left i 0) (getD right i 0)))
 next l = counted-word (differing-word _ _ (l .loop .i) (l .before .pre .0) (l .before .pre .1)) (l .loop .inv .1)
 
 loop-holds : tie.Need-loop-holds Inv-loop μ-loop
