@@ -63,7 +63,7 @@ fn count_rest(sam: &[u32; 128], com: &[u32; 128], blocks: u32) -> u32
     u32::count_ones(available_word(sam, com, blocks, (blocks / Bitmap::WORD_BITS) as usize))
 }
 
-// The number of available blocks of a volume, in one pass over the words that it fills, and those of the rest.
+// The number of available blocks of a volume: those of the words that it fills, in one pass, and those of the rest.
 pub fn count_available(sam: &[u32; 128], com: &[u32; 128], blocks: u32) -> u32
     requires { ⌜ IsBitmap (now sam) ⌝ }
     requires { ⌜ IsBitmap (now «com») ⌝ }

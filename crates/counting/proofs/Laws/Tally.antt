@@ -1,4 +1,4 @@
--- Blocks of whole bitmaps counted word by word.
+-- Blocks counted word by word, and the three counts of whole bitmaps.
 use Prim.Native.Nat.{ℕ, _+_, _-_, _*_, _^_, _≤_, _<_}
 use native.Mathlib.Omega.{arith}
 use mathlib.Core.Path.{_≡_, sym, ap, ap₂, _∙_}

@@ -28,7 +28,7 @@ next : (l : tie.At-loop Inv-loop μ-loop)
     k < a .blocks / wordBits
     → Counted (a .blocks) (isAvailable (a .sam .now) (a .«com» .now)) (k + 1)
     (l .loop .count + ones (2 ^ 32 - 1 - bitOr (getD (a .sam .now) k 0) (getD (a .«com» .now) k 0)))
-next l h = counted-available (l .before .pre .0) (l .before .pre .1 .0) (omega arith) (l .loop .inv .1)
+next l h = counted-available (search needs) (search needs) (omega arith) (l .loop .inv .1)
 
 cast-whole : tie.Need-cast-whole Inv-loop μ-loop
 cast-whole c = search needs
