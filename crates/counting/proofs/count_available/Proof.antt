@@ -16,7 +16,7 @@ use Rattle.counting.proofs.count_available.Statement.{statement}
 use Rattle.counting.proofs.count_available.Tie as tie
 
 abbrev Inv-loop : tie.InvT-loop
-Inv-loop sam «com» blocks whole count₀ k₀ count k = (k ≤ whole) × Counted blocks (isAvailable sam «com») k count
+Inv-loop sam «com» blocks whole count₀ k₀ count k = Counted blocks (isAvailable sam «com») k count × (k ≤ whole)
 
 abbrev μ-loop : tie.MeasureT-loop
 μ-loop sam «com» blocks whole count₀ k₀ count k = whole - k
@@ -28,13 +28,13 @@ next : (l : tie.At-loop Inv-loop μ-loop)
     k < a .blocks / wordBits
     → Counted (a .blocks) (isAvailable (a .sam .now) (a .«com» .now)) (k + 1)
     (l .loop .count + ones (2 ^ 32 - 1 - bitOr (getD (a .sam .now) k 0) (getD (a .«com» .now) k 0)))
-next l h = counted-available (search needs) (search needs) (omega arith) (l .loop .inv .1)
+next l h = counted-available (search needs) (search needs) (omega arith) (l .loop .inv .0)
 
 cast-whole : tie.Need-cast-whole Inv-loop μ-loop
 cast-whole c = search needs
 
 loop-holds : tie.Need-loop-holds Inv-loop μ-loop
-loop-holds c = (search needs, counted-none _)
+loop-holds c = (counted-none _, search needs)
 
 mul-count : tie.Need-mul-count Inv-loop μ-loop
 mul-count c = search needs
@@ -58,7 +58,7 @@ loop-less : tie.Need-loop-less Inv-loop μ-loop
 loop-less c = search needs
 
 loop-again : tie.Need-loop-again Inv-loop μ-loop
-loop-again c = (search needs, next (c .before .before .before) (omega arith))
+loop-again c = (next (c .before .before .before) (omega arith), search needs)
 
 count-rest-requires : tie.Need-count-rest-requires Inv-loop μ-loop
 count-rest-requires c κs = search needs
@@ -71,7 +71,7 @@ unfolding availableBlocks
 all c =
     let l = c .before .before .loop in
     let end : l .k ≡ c .before .before .before .args .blocks / 32 = omega arith in
-    omega (arith, rw end at (l .inv .1 .rest), c .count-rest .ensures)
+    omega (arith, rw end at (l .inv .0 .rest), c .count-rest .ensures)
 
 add-result : tie.Need-add-result Inv-loop μ-loop
 unfolding availableBlocks
