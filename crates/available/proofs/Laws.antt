@@ -2,3 +2,4 @@
 pub mod Available
 pub mod Scan
 pub mod Take
+pub mod Took

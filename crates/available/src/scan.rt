@@ -4,7 +4,7 @@ ghost use Prim.Native.Nat.{_≤_};
 ghost use Rattle.bitmap.specs.Sizes.{maxBlocks};
 ghost use Rattle.bitmap.specs.Bits.{IsBitmap};
 ghost use Rattle.available.specs.Available.{nextAvailable};
-ghost use Rattle.available.specs.Take.{CanTake, Takes};
+ghost use Rattle.available.specs.Take.{CanTake, Takes, lowestBlocks};
 use crate::available::available_word;
 use bitmap::Bitmap;
 use bitops::block;
@@ -39,8 +39,8 @@ pub fn take_lowest(
     count: u32,
 )
     requires { ⌜ CanTake blocks count (now sam) (now «com») (now tam) (now list) ⌝ }
-    ensures { λ _. ⌜ Takes blocks count (now (sam .entry)) (now («com» .entry)) (now (tam .entry)) (now (list .entry))
-        (now («com» .exit)) (now (tam .exit)) (now (list .exit)) ⌝ }
+    ensures { λ _. ⌜ Takes blocks count (lowestBlocks blocks count (now (sam .entry)) (now («com» .entry)))
+        (now («com» .entry)) (now (tam .entry)) (now (list .entry)) (now («com» .exit)) (now (tam .exit)) (now (list .exit)) ⌝ }
 {
     let mut next = 0;
     for n in 0..count {

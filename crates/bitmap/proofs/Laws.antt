@@ -2,5 +2,7 @@
 pub mod Word
 pub mod Bits
 pub mod Blocks
+pub mod Search
+pub mod Extents
 pub mod Majority
 pub mod Count

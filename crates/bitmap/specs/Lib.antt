@@ -2,4 +2,5 @@
 pub mod Sizes
 pub mod Bits
 pub mod Blocks
+pub mod Extents
 pub mod Majority

@@ -6,22 +6,22 @@ use mathlib.Core.Logic.{inl, ⊎-elim}
 use mathlib.Core.Bool.{Bool, true, false, cond, false≢true}
 use mathlib.Core.Option.{Option, none, some}
 use mathlib.Core.List.{List, [], _∷_}
-use lib.ListN.{length}
-use lib.Seq.{length-take-le}
+use lib.ListN.{length, getD}
 use lib.Dec.{eqb}
 use Rattle.bitmap.specs.Sizes.{slotCount, wordsFor}
 use Rattle.model_types.specs.declared.error.Error.{Error}
 use Rattle.model_types.specs.declared.memory.Memory.{Memory}
 use Rattle.model_types.specs.declared.memory.Pending.{Pending}
 use Rattle.model_types.specs.declared.memory.Pending.the-variants.{Nothing, Commit, Recovery}
+use Rattle.model_types.specs.Answers.{granted, grantNumber}
 use Rattle.model_types.specs.Memory.{slotAt, withPending}
 use Rattle.model.specs.First.{unlessRefused}
 use Rattle.model.specs.Commit.{changedOf, commitDue, committed}
 use Rattle.model.specs.Pending.{storesDone, storesDue, oneMoreDone, finished}
 use Rattle.model.specs.Valid.{pendingValid, valid}
-use Rattle.model.specs.Causes.{available}
 use Rattle.model.specs.Calls.Start.{startError, started, startMemory}
 use Rattle.model.specs.Calls.Allocate.{allocateError, lowest, taking, allocateAnswer, allocateMemory}
+use Rattle.model.specs.Calls.AllocateExtent.{allocateExtentError, nearestExtent, allocateExtentAnswer, allocateExtentMemory}
 use Rattle.model.specs.Calls.Deallocate.{deallocateError, freeing, deallocateAnswer, deallocateMemory}
 use Rattle.model.specs.Calls.Precommit.{precommitError, precommitting, precommitMemory}
 use Rattle.model.specs.Calls.Format.{formatDisk}
@@ -32,8 +32,8 @@ use Rattle.model.specs.Calls.Storing.{storeError, advanced, storeMemory}
 use Rattle.model.proofs.Laws.Numbers.{numberOf, done-number, grant-number}
 use Rattle.model.proofs.Laws.Valid.{ValidParts, valid-parts}
 use Rattle.model.proofs.Laws.Pending.{commit-parts, precommitted-active, precommitted-below}
-use Rattle.model.proofs.Laws.Accepted.{Ready, start-accepted, allocate-accepted, deallocate-accepted, precommit-accepted, CommitAccepted, commit-accepted, rollback-accepted, CommitCostAccepted, commit-cost-accepted}
-use Rattle.model.specs.Outcome.{Call, outcome, openCall, startCall, allocateCall, deallocateCall, precommitCall, commitCall, rollbackCall, storeCall, statusCall, commitCostCall, crashCall}
+use Rattle.model.proofs.Laws.Accepted.{Ready, start-accepted, deallocate-accepted, precommit-accepted, CommitAccepted, commit-accepted, rollback-accepted, CommitCostAccepted, commit-cost-accepted}
+use Rattle.model.specs.Outcome.{Call, outcome, openCall, startCall, allocateCall, allocateExtentCall, deallocateCall, precommitCall, commitCall, rollbackCall, storeCall, statusCall, commitCostCall, crashCall}
 use Rattle.crash_safety.specs.World.{World, step, run, begin}
 use Rattle.crash_safety.specs.InOrder.{InUse}
 use Rattle.crash_safety.specs.CommitCost.{touchesFor, touchesIn, SameUse, CommitCostKeptInUse, CommitCostHolds}
@@ -42,7 +42,9 @@ use Rattle.crash_safety.proofs.Keeps.{step-keeps, run-keeps, begins-for
 use Rattle.crash_safety.proofs.InOrder.Always.{step-uses, run-in-order}
 use Rattle.crash_safety.proofs.Crash.{zero-invalid}
 use Rattle.model.proofs.Laws.TouchedBlocks.{changed-touched, changed-words}
-use Rattle.model.proofs.Laws.CommitCost.{due-within, due-answered, commit-cost-kept}
+use Rattle.model.proofs.Laws.Granting.{Grants, allocate-grants, allocate-extent-grants}
+use Rattle.model.proofs.Laws.Answered.{due-answered}
+use Rattle.model.proofs.Laws.CommitCost.{due-within, commit-cost-kept}
 use Rattle.model.proofs.Laws.TouchedBy.{active-touched, Touches, started-touches, taking-touches, freeing-touches, precommitting-touches, rolled-back-touches, pending-touches, committed-touches}
 
 -- ---- a call that is refused or not
@@ -86,16 +88,15 @@ module _ (memory : Memory) (s : ℕ) (eight : length (memory .slots) ≡ slotCou
       never-touches memory (rolledBack memory t) s (rollbackError memory t)
       (λ e. rolled-back-touches memory t s (there t (rollback-accepted memory t e .ready)))
 
-  allocate-touches : (t count : ℕ) (list : List ℕ)
-      → Touches memory (allocateMemory memory t count list) s (cond (eqb (numberOf (allocateError memory t count list)) 0) (cond (eqb t s) count 0) 0)
-  unfolding allocateMemory lowest
-  allocate-touches t count list =
-      unless-touches memory (taking memory t (lowest memory count)) s (allocateError memory t count list) (cond (eqb t s) count 0)
+  -- a call that grants blocks
+  grant-touches : (t count : ℕ) (blocks : List ℕ) (error : Option Error) → (error ≡ none → Grants memory t count blocks)
+      → Touches memory (unlessRefused error (taking memory t blocks) memory) s (cond (eqb (numberOf error) 0) (cond (eqb t s) count 0) 0)
+  grant-touches t count blocks error grants =
+      unless-touches memory (taking memory t blocks) s error (cond (eqb t s) count 0)
       (λ e.
-      let a = allocate-accepted memory t count list e in
-      subst (λ (n : ℕ). Touches memory (taking memory t (lowest memory count)) s (cond (eqb t s) n 0))
-      (length-take-le count (available memory) (a .enough))
-      (taking-touches memory t s (there t (a .ready)) parts (lowest memory count)))
+      let g = grants e in
+      subst (λ (n : ℕ). Touches memory (taking memory t blocks) s (cond (eqb t s) n 0)) (g .size)
+      (taking-touches memory t s (there t (g .ready)) parts blocks))
 
   deallocate-touches : (t block : ℕ)
       → Touches memory (deallocateMemory memory t block) s (cond (eqb (numberOf (deallocateError memory t block)) 0) (cond (eqb t s) 1 0) 0)
@@ -155,12 +156,21 @@ module _ (s : ℕ) (w : World) (i : Invariant w) (c : InUse w) where
       go true = k
       go false = k
 
+  grant-told : (t count : ℕ) (blocks : List ℕ) (error : Option Error) → (error ≡ none → Grants (w .memory) t count blocks)
+      → Touches (w .memory) (unlessRefused error (taking (w .memory) t blocks) (w .memory)) s
+      (cond (eqb (grantNumber (granted error (getD blocks 0 0))) 0) (cond (eqb t s) count 0) 0)
+  grant-told t count blocks error grants = rw grant-number (grant-touches (w .memory) s eight parts t count blocks error grants)
+
   allocate-told : (t count : ℕ) (list : List ℕ) → TouchesTold (allocateCall t count list)
-  unfolding step outcome touchesFor allocateAnswer
+  unfolding step outcome touchesFor allocateAnswer allocateMemory
   allocate-told t count list =
-      subst (λ (n : ℕ). Touches (w .memory) (allocateMemory (w .memory) t count list) s (cond (eqb n 0) (cond (eqb t s) count 0) 0))
-      (sym (grant-number (allocateError (w .memory) t count list) _))
-      (allocate-touches (w .memory) s eight parts t count list)
+      grant-told t count (lowest (w .memory) count) (allocateError (w .memory) t count list) (allocate-grants (w .memory) t count list)
+
+  allocate-extent-told : (t count near : ℕ) (list : List ℕ) → TouchesTold (allocateExtentCall t count near list)
+  unfolding step outcome touchesFor allocateExtentAnswer allocateExtentMemory
+  allocate-extent-told t count near list =
+      grant-told t count (nearestExtent (w .memory) count near) (allocateExtentError (w .memory) t count near list)
+      (allocate-extent-grants (w .memory) t count near list)
 
   deallocate-told : (t block : ℕ) → TouchesTold (deallocateCall t block)
   unfolding step outcome touchesFor deallocateAnswer
@@ -174,6 +184,7 @@ module _ (s : ℕ) (w : World) (i : Invariant w) (c : InUse w) where
   step-touches openCall no-open no-crash = absurd (no-open refl)
   step-touches crashCall no-open no-crash = absurd (no-crash refl)
   step-touches (allocateCall t count list) no-open no-crash = allocate-told t count list
+  step-touches (allocateExtentCall t count near list) no-open no-crash = allocate-extent-told t count near list
   step-touches (deallocateCall t block) no-open no-crash = deallocate-told t block
   step-touches (startCall t) no-open no-crash = none-told (startCall t) refl (start-touches (w .memory) s eight parts t)
   step-touches (precommitCall t) no-open no-crash = none-told (precommitCall t) refl (precommit-touches (w .memory) s eight parts t)

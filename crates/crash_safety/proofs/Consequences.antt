@@ -2,14 +2,15 @@
 use Prim.Native.Nat.{ℕ, _*_, _≤_}
 use mathlib.Core.Path.{_≡_, refl, sym, ap, _∙_}
 use mathlib.Core.Bool.{Bool, true, false, cond}
-use mathlib.Core.Option.{none}
-use mathlib.Core.List.{List}
-use lib.ListN.{length, take}
+use mathlib.Core.Option.{Option, none}
+use mathlib.Core.List.{List, _++_}
+use lib.ListN.{length, take, drop}
 use lib.Dec.{ltb}
 use borrow.Author.Tests.{ltb-true, ltb-false}
 use Rattle.bitmap.specs.Sizes.{maxBlocks, slotCount}
 use Rattle.bitmap.specs.Bits.{bit}
 use Rattle.bitmap.specs.Blocks.{member}
+use Rattle.model_types.specs.declared.error.Error.{Error}
 use Rattle.model_types.specs.declared.memory.Memory.{Memory}
 use Rattle.model_types.specs.declared.memory.Pending.{Pending}
 use Rattle.model_types.specs.declared.memory.Pending.the-variants.{Nothing, Commit, Recovery}
@@ -17,21 +18,23 @@ use Rattle.model.specs.Sizes.{diskWords}
 use Rattle.model_types.specs.Memory.{slotAt, samBit, tamBit}
 use Rattle.model.specs.Commit.{changedOf}
 use Rattle.model.specs.Valid.{pendingValid}
+use Rattle.model.specs.First.{unlessRefused}
 use Rattle.model.specs.Calls.Format.{formatDisk}
 use Rattle.model.specs.Calls.Opening.{openMemory}
-use Rattle.model.specs.Calls.Allocate.{allocateError, allocateList}
+use Rattle.model.specs.Calls.Allocate.{allocateError, lowest, allocateList}
+use Rattle.model.specs.Calls.AllocateExtent.{allocateExtentError, nearestExtent, allocateExtentList}
 use Rattle.model.specs.Outcome.{Call, outcome, crashCall}
-use Rattle.model.proofs.Laws.Accepted.{allocate-accepted}
 use Rattle.model.proofs.Laws.Valid.{ValidParts, valid-parts}
 use Rattle.model.proofs.Laws.Commit.{committed-bits}
 use Rattle.model.proofs.Laws.Pending.{commit-parts, precommitted-active}
-use Rattle.model.proofs.Laws.Taking.{lowest-available}
+use Rattle.model.proofs.Laws.Granting.{Grants, allocate-grants, allocate-extent-grants}
 use Rattle.crash_safety.specs.Ledger.{enterAll, Ledger, noSets, setsOf, emptied, holders, enter, entered}
 use Rattle.crash_safety.specs.World.{World, begin, events, step, run}
 use Rattle.crash_safety.specs.InOrder.{InUse, WorkCompletes}
 use Rattle.crash_safety.proofs.Invariant.{PendingTied, Invariant}
 use Rattle.crash_safety.proofs.Touching.{plain}
-use Rattle.crash_safety.proofs.Allocate.{listed, unheld}
+use Rattle.crash_safety.proofs.Granting.{unheld}
+use Rattle.crash_safety.proofs.Allocate.{listed}
 use Rattle.crash_safety.proofs.Crash.{alike}
 use Rattle.crash_safety.proofs.Keeps.{step-keeps, run-keeps, begins-formatted}
 use Rattle.crash_safety.proofs.Completion.{completes}
@@ -76,16 +79,37 @@ module _ (blocks : ℕ) (some-blocks : 1 ≤ blocks) (few : blocks ≤ maxBlocks
   pub never-two-holders : (b : ℕ) → holders (w .ledger) b ≤ 1
   never-two-holders = crash-safe blocks some-blocks few disk size calls .one-holder
 
-  -- a block that an allocate lists had none.
+  -- a block that is listed had none,
+  grant-unheld : (s count : ℕ) (blocks list : List ℕ) (error : Option Error)
+      → Grants (w .memory) s count blocks
+      → error ≡ none
+      → (b : ℕ)
+      → member b (take count (unlessRefused error (blocks ++ drop count list) list)) ≡ true
+      → holders (w .ledger) b ≡ 0
+  grant-unheld s count blocks list error g e b m =
+      unheld (w .memory) (w .ledger) b (valid-parts (w .memory) (g .ready .is-valid)) (plain w s reached (g .ready))
+      (g .available b (sym (ap (member b) (listed error count blocks list e (g .size))) ∙ m))
+
+  -- by an allocate
   pub granted-unheld : (s count : ℕ) (list : List ℕ)
       → allocateError (w .memory) s count list ≡ none
       → (b : ℕ)
       → member b (take count (allocateList (w .memory) s count list)) ≡ true
       → holders (w .ledger) b ≡ 0
-  granted-unheld s count list e b m =
-      let ready = allocate-accepted (w .memory) s count list e .ready in
-      unheld (w .memory) (w .ledger) b (valid-parts (w .memory) (ready .is-valid)) (plain w s reached ready)
-      (lowest-available (w .memory) count b (sym (ap (member b) (listed (w .memory) s count list e)) ∙ m))
+  unfolding allocateList
+  granted-unheld s count list e =
+      grant-unheld s count (lowest (w .memory) count) list (allocateError (w .memory) s count list) (allocate-grants (w .memory) s count list e) e
+
+  -- or by an allocate extent.
+  pub extent-unheld : (s count near : ℕ) (list : List ℕ)
+      → allocateExtentError (w .memory) s count near list ≡ none
+      → (b : ℕ)
+      → member b (take count (allocateExtentList (w .memory) s count near list)) ≡ true
+      → holders (w .ledger) b ≡ 0
+  unfolding allocateExtentList
+  extent-unheld s count near list e =
+      grant-unheld s count (nearestExtent (w .memory) count near) list (allocateExtentError (w .memory) s count near list)
+      (allocate-extent-grants (w .memory) s count near list e) e
 
   -- A transaction is durable exactly from its commit point on: were the power to fail now, an open would find this.
   pub durable-from-commit-point : InUse w → (b : ℕ) → found (w .disk) b ≡ durableBit (w .memory) (w .memory .pending) b

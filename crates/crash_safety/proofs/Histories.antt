@@ -9,9 +9,11 @@ use lib.ListN.{replicate}
 use Rattle.bitmap.specs.Sizes.{maxCount, blocksInRange, countInRange, slotInRange}
 use Rattle.bitmap.specs.Bits.{isSet, bit, wordOf, wordsOf, bitmapOf, noBitsFrom}
 use Rattle.bitmap.specs.Blocks.{scan, from, allocatedBlocks, isAvailable, availableBlocks, member, allBelow}
+use Rattle.bitmap.specs.Extents.{adjoining, isStart, starts, distance, nearer, nearestOf, nearest}
 use Rattle.bitmap.specs.Majority.{majority}
 use Rattle.model_types.specs.Answers.{done, granted, due, counted}
 use Rattle.model.specs.Calls.Allocate.{allocateError, lowest, taking, allocateAnswer, allocateMemory, allocateList}
+use Rattle.model.specs.Calls.AllocateExtent.{allocateExtentError, nearestExtent, allocateExtentAnswer, allocateExtentMemory, allocateExtentList}
 use Rattle.model.specs.Calls.CommitCost.{commitCostError, touchedBlocks, costFor, commitCost, commitCostAnswer}
 use Rattle.model.specs.Calls.Committing.{commitError, committing, commitAnswer, commitMemory}
 use Rattle.model.specs.Calls.Deallocate.{deallocateError, freeing, deallocateAnswer, deallocateMemory}
@@ -22,13 +24,13 @@ use Rattle.model.specs.Calls.Rollback.{rollbackError, rolledBackCom, rolledBack
 use Rattle.model.specs.Calls.Start.{startError, started, startAnswer, startMemory}
 use Rattle.model.specs.Calls.Status.{statusError, counts as statusCounts, statusAnswer, allocated, activeSlots}
 use Rattle.model.specs.Calls.Storing.{storeError, stillDue, advanced, nextStored, storeAnswer, storeMemory, storeDisk}
-use Rattle.model.specs.Causes.{memoryInvalid, diskLengthWrong, diskBlocksWrong, diskBitmapWrong, diskLogWrong, diskMismatched, blocksOutOfRange, nothingPending, workPending, slotOutOfRange, slotActive, slotInactive, slotPrecommitted, slotNotPrecommitted, countOutOfRange, countTooLarge, listShort, available, tooFewAvailable, blockOutOfRange, blockFree, blockFreeing}
+use Rattle.model.specs.Causes.{memoryInvalid, diskLengthWrong, diskBlocksWrong, diskBitmapWrong, diskLogWrong, diskMismatched, blocksOutOfRange, nothingPending, workPending, slotOutOfRange, slotActive, slotInactive, slotPrecommitted, slotNotPrecommitted, countOutOfRange, countTooLarge, listShort, available, tooFewAvailable, blockOutOfRange, blockFree, blockFreeing, extentStarts, noExtent}
 use Rattle.model_types.specs.Pending.{isNothing}
 use Rattle.model.specs.Pending.{storesDone, storesDue, oneMoreDone, finished}
 use Rattle.model.specs.Commit.{committedSam, entriesOf, changedOf, commitDue, refreshed, committed}
 use Rattle.model.specs.Disk.{lengthIn, entriesIn, logEntries, entriesValid, logValid, durable, dueStores, entriesAgree, recoveryMatches, diskMatches}
 use Rattle.model.specs.First.{firstOr, first, unlessRefused}
-use Rattle.model.specs.Outcome.{outcome, Call, Outcome, openCall, startCall, allocateCall, deallocateCall, precommitCall, commitCall, rollbackCall, storeCall, statusCall, commitCostCall, crashCall}
+use Rattle.model.specs.Outcome.{outcome, Call, Outcome, openCall, startCall, allocateCall, allocateExtentCall, deallocateCall, precommitCall, commitCall, rollbackCall, storeCall, statusCall, commitCostCall, crashCall}
 use Rattle.model.specs.Stores.{writes, changesFrom, logStores, checkpointWith, journalWith, checkpointStores, commitStores}
 use Rattle.model.specs.Valid.{touched, sameWords, allSlots, slotValid, touches, touchesAgree, isQuiet, pendingValid, valid}
 use Rattle.crash_safety.specs.Ledger.{emptied, hasWord, wordsFrom, setsWords, without, takes, frees, counts, commits, stores, entered, enter, enterAll, Ledger, Sets, noSets, ledgerOf, setsOf, holders, takers}
@@ -133,6 +135,24 @@ borrowed =
 rolledBackThere : List Call
 rolledBackThere = borrowed ++ rollbackCall 7 ∷ startCall 1 ∷ allocateCall 1 3 list ∷ statusCall ∷ []
 
+-- slot 7 takes an extent of one block, the block it names, and of the two next to it the lower one; then it is refused two that
+-- adjoin, and one near a block that isn't there
+adjoined : List Call
+adjoined =
+    openCall
+    ∷ startCall 1
+    ∷ allocateCall 1 1 list
+    ∷ startCall 7
+    ∷ allocateExtentCall 7 1 2 list
+    ∷ allocateExtentCall 7 1 2 (9 ∷ 8 ∷ [])
+    ∷ allocateExtentCall 7 2 3 list
+    ∷ allocateExtentCall 7 1 4 list
+    ∷ []
+
+-- and rolls back; slot 1 then takes two that adjoin, nearest to the last block
+adjoinedAgain : List Call
+adjoinedAgain = adjoined ++ rollbackCall 7 ∷ allocateExtentCall 1 2 3 list ∷ []
+
 -- a crash inside a recovery, after one of its two stores; the next open starts it again
 crashedTwice : List Call
 crashedTwice = afterPoint ++ crashCall ∷ openCall ∷ storeCalls 1 ++ crashCall ∷ statusCall ∷ openCall ∷ storeCalls 2 ++ statusCall ∷ []
@@ -147,6 +167,8 @@ histories =
     ++ after (1 ∷ 2 ∷ []) reopened
     ++ after (7 ∷ []) borrowed
     ++ after (1 ∷ 7 ∷ []) rolledBackThere
+    ++ after (1 ∷ 7 ∷ []) adjoined
+    ++ after (1 ∷ 7 ∷ []) adjoinedAgain
     ++ after (1 ∷ []) crashedTwice
 
 pub expected : List (List ℕ)
@@ -213,6 +235,24 @@ expected =
     ∷ []
     ∷ []
     ∷ []
+    -- taken as extents by slot 7; 22 for two that don't adjoin, 18 for a block that isn't there
+    ∷ (0 ∷ 0 ∷ 0 ∷ 0 ∷ 0 ∷ 0 ∷ 22 ∷ 18 ∷ [])
+    ∷ (0 ∷ 0 ∷ 0 ∷ 0 ∷ 2 ∷ 1 ∷ 0 ∷ 0 ∷ [])
+    ∷ []
+    ∷ []
+    ∷ (0 ∷ [])
+    ∷ []
+    ∷ (2 ∷ 1 ∷ [])
+    ∷ []
+    -- rolled back, and an extent taken by slot 1
+    ∷ (0 ∷ 0 ∷ 0 ∷ 0 ∷ 0 ∷ 0 ∷ 22 ∷ 18 ∷ 0 ∷ 0 ∷ [])
+    ∷ (0 ∷ 0 ∷ 0 ∷ 0 ∷ 2 ∷ 1 ∷ 0 ∷ 0 ∷ 0 ∷ 2 ∷ [])
+    ∷ []
+    ∷ []
+    ∷ (0 ∷ 2 ∷ 3 ∷ [])
+    ∷ []
+    ∷ []
+    ∷ []
     -- crashed inside a recovery; status is refused until the next open
     ∷ (replicate 12 0 ++ (1 ∷ 0 ∷ 0 ∷ 0 ∷ 0 ∷ []))
     ∷ (0 ∷ 0 ∷ 0 ∷ 0 ∷ 5 ∷ 4 ∷ 3 ∷ 2 ∷ 0 ∷ 2 ∷ 1 ∷ 0 ∷ 0 ∷ 2 ∷ 1 ∷ 0 ∷ 2 ∷ [])
@@ -223,7 +263,7 @@ expected =
     ∷ []
 
 computed : sameRows histories expected ≡ true
-unfolding sameRows expected histories after shown slotSets follow beforePoint afterPoint retaken reopened borrowed rolledBackThere crashedTwice grow list storeCalls xor isSet bit wordOf wordsOf bitmapOf noBitsFrom scan from allocatedBlocks isAvailable availableBlocks member allBelow majority done granted due counted commitCostError touchedBlocks costFor commitCost commitCostAnswer allocateError lowest taking allocateAnswer allocateMemory allocateList commitError committing commitAnswer commitMemory deallocateError freeing deallocateAnswer deallocateMemory formatError formatted formatAnswer formatDisk openError recoveryDue recoveryPending opened openAnswer openMemory precommitError precommitting precommitAnswer precommitMemory rollbackError rolledBackCom rolledBack rollbackAnswer rollbackMemory startError started startAnswer startMemory statusError statusCounts statusAnswer allocated activeSlots storeError stillDue advanced nextStored storeAnswer storeMemory storeDisk memoryInvalid diskLengthWrong diskBlocksWrong diskBitmapWrong diskLogWrong diskMismatched blocksOutOfRange isNothing nothingPending workPending slotOutOfRange slotActive slotInactive slotPrecommitted slotNotPrecommitted countOutOfRange countTooLarge listShort available tooFewAvailable blockOutOfRange blockFree blockFreeing committedSam entriesOf changedOf commitDue refreshed committed lengthIn entriesIn logEntries entriesValid logValid durable dueStores entriesAgree recoveryMatches diskMatches firstOr first unlessRefused touched outcome storesDone storesDue oneMoreDone finished writes changesFrom logStores checkpointWith journalWith checkpointStores commitStores blocksInRange countInRange slotInRange sameWords allSlots slotValid touches touchesAgree isQuiet pendingValid valid emptied hasWord wordsFrom setsWords without takes frees counts commits stores entered enter enterAll events step run
+unfolding sameRows expected histories after shown slotSets follow beforePoint afterPoint retaken reopened borrowed rolledBackThere adjoined adjoinedAgain crashedTwice grow list storeCalls xor isSet bit wordOf wordsOf bitmapOf noBitsFrom scan from allocatedBlocks isAvailable availableBlocks member allBelow majority done granted due counted commitCostError touchedBlocks costFor commitCost commitCostAnswer allocateError lowest taking allocateAnswer allocateMemory allocateList adjoining isStart starts distance nearer nearestOf nearest extentStarts noExtent allocateExtentError nearestExtent allocateExtentAnswer allocateExtentMemory allocateExtentList commitError committing commitAnswer commitMemory deallocateError freeing deallocateAnswer deallocateMemory formatError formatted formatAnswer formatDisk openError recoveryDue recoveryPending opened openAnswer openMemory precommitError precommitting precommitAnswer precommitMemory rollbackError rolledBackCom rolledBack rollbackAnswer rollbackMemory startError started startAnswer startMemory statusError statusCounts statusAnswer allocated activeSlots storeError stillDue advanced nextStored storeAnswer storeMemory storeDisk memoryInvalid diskLengthWrong diskBlocksWrong diskBitmapWrong diskLogWrong diskMismatched blocksOutOfRange isNothing nothingPending workPending slotOutOfRange slotActive slotInactive slotPrecommitted slotNotPrecommitted countOutOfRange countTooLarge listShort available tooFewAvailable blockOutOfRange blockFree blockFreeing committedSam entriesOf changedOf commitDue refreshed committed lengthIn entriesIn logEntries entriesValid logValid durable dueStores entriesAgree recoveryMatches diskMatches firstOr first unlessRefused touched outcome storesDone storesDue oneMoreDone finished writes changesFrom logStores checkpointWith journalWith checkpointStores commitStores blocksInRange countInRange slotInRange sameWords allSlots slotValid touches touchesAgree isQuiet pendingValid valid emptied hasWord wordsFrom setsWords without takes frees counts commits stores entered enter enterAll events step run
 computed = refl
 
 pub worked : histories ≡ expected

@@ -17,7 +17,7 @@ use Rattle.model.specs.Disk.{durable}
 use Rattle.crash_safety.specs.Ledger.{holders}
 use Rattle.model.specs.Calls.Format.{formatted, formatDisk}
 use Rattle.model.specs.Calls.Opening.{openError}
-use Rattle.model.specs.Outcome.{Call, openCall, startCall, allocateCall, deallocateCall, precommitCall, commitCall, rollbackCall, storeCall, statusCall, commitCostCall, crashCall}
+use Rattle.model.specs.Outcome.{Call, openCall, startCall, allocateCall, allocateExtentCall, deallocateCall, precommitCall, commitCall, rollbackCall, storeCall, statusCall, commitCostCall, crashCall}
 use Rattle.crash_safety.specs.World.{World, begin, step, run}
 use Rattle.model.proofs.Laws.Accepted.{accepted-format}
 use Rattle.model.proofs.Laws.DiskParts.{blocks-inRange, none-told, diskOf-quiet, quiet-opens}
@@ -29,7 +29,7 @@ use Rattle.crash_safety.proofs.Start.{start-keeps}
 use Rattle.crash_safety.proofs.Precommit.{precommit-keeps}
 use Rattle.crash_safety.proofs.Rollback.{rollback-keeps}
 use Rattle.crash_safety.proofs.Deallocate.{deallocate-keeps}
-use Rattle.crash_safety.proofs.Allocate.{allocate-keeps}
+use Rattle.crash_safety.proofs.Allocate.{allocate-keeps, allocate-extent-keeps}
 use Rattle.crash_safety.proofs.Commit.{commit-keeps}
 use Rattle.crash_safety.proofs.Store.{store-keeps}
 use Rattle.crash_safety.proofs.Crash.{zero-invalid, crash-keeps, open-keeps, status-keeps, commit-cost-keeps}
@@ -38,6 +38,7 @@ pub step-keeps : (call : Call) (w : World) → Invariant w → Invariant (step c
 step-keeps openCall w i = open-keeps w i
 step-keeps (startCall s) w i = start-keeps w s i
 step-keeps (allocateCall s count list) w i = allocate-keeps w s count list i
+step-keeps (allocateExtentCall s count near list) w i = allocate-extent-keeps w s count near list i
 step-keeps (deallocateCall s block) w i = deallocate-keeps w s block i
 step-keeps (precommitCall s) w i = precommit-keeps w s i
 step-keeps (commitCall s) w i = commit-keeps w s i

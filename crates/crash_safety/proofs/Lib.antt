@@ -8,6 +8,7 @@ pub mod Start
 pub mod Precommit
 pub mod Rollback
 pub mod Deallocate
+pub mod Granting
 pub mod Allocate
 pub mod Count
 pub mod Committed

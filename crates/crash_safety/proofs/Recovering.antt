@@ -6,7 +6,7 @@ use mathlib.Core.Option.{Option, none}
 use mathlib.Core.List.{List, [], _∷_}
 use lib.ListN.{replicate}
 use lib.Dec.{eqb}
-use Rattle.model.specs.Outcome.{Call, Outcome, outcome, openCall, startCall, allocateCall, deallocateCall, precommitCall, commitCall, rollbackCall, storeCall, statusCall, commitCostCall, crashCall}
+use Rattle.model.specs.Outcome.{Call, Outcome, outcome, openCall, startCall, allocateCall, allocateExtentCall, deallocateCall, precommitCall, commitCall, rollbackCall, storeCall, statusCall, commitCostCall, crashCall}
 use Rattle.crash_safety.specs.Ledger.{Ledger, Counting, emptied, enter, entered, enterAll, stores, asking}
 use Rattle.crash_safety.specs.World.{World, eventOf, events, step, run}
 use Rattle.crash_safety.proofs.Refused.{asked-nothing}
@@ -20,6 +20,7 @@ Recovers (commitCostCall s count) = Unit {0}
 Recovers crashCall = Unit {0}
 Recovers (startCall s) = ⊥
 Recovers (allocateCall s count list) = ⊥
+Recovers (allocateExtentCall s count near list) = ⊥
 Recovers (deallocateCall s block) = ⊥
 Recovers (precommitCall s) = ⊥
 Recovers (commitCall s) = ⊥
@@ -82,6 +83,7 @@ step-settled (commitCostCall slot count) w allocated r s = cost-settled allocate
 step-settled crashCall w allocated r s = crash-settles allocated w (s .same)
 step-settled (startCall s) w allocated r t = absurd r
 step-settled (allocateCall s count list) w allocated r t = absurd r
+step-settled (allocateExtentCall s count near list) w allocated r t = absurd r
 step-settled (deallocateCall s block) w allocated r t = absurd r
 step-settled (precommitCall s) w allocated r t = absurd r
 step-settled (commitCall s) w allocated r t = absurd r

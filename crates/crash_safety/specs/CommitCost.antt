@@ -9,15 +9,17 @@ use Rattle.model_types.specs.declared.answer.StoresAnswer.{StoresAnswer}
 use Rattle.model.specs.Calls.Committing.{commitAnswer}
 use Rattle.model.specs.Calls.CommitCost.{commitCostAnswer}
 use Rattle.model.specs.CostKept.{CostKept}
-use Rattle.model.specs.Outcome.{Call, outcome, openCall, startCall, allocateCall, deallocateCall, precommitCall, commitCall, rollbackCall, storeCall, statusCall, commitCostCall, crashCall}
+use Rattle.model.specs.Outcome.{Call, outcome, openCall, startCall, allocateCall, allocateExtentCall, deallocateCall, precommitCall, commitCall, rollbackCall, storeCall, statusCall, commitCostCall, crashCall}
 use Rattle.crash_safety.specs.World.{World, step, run}
 use Rattle.crash_safety.specs.InOrder.{AfterEvery}
 
--- the blocks that a call, if it is accepted, touches for slot s: an allocate as many as its count, a deallocate one
+-- the blocks that a call, if it is accepted, touches for slot s: an allocate, of an extent or not, as many as its
+-- count, a deallocate one
 unfoldable pub touchesFor : ℕ → Call → ℕ
 touchesFor s openCall = 0
 touchesFor s (startCall t) = 0
 touchesFor s (allocateCall t count list) = cond (eqb t s) count 0
+touchesFor s (allocateExtentCall t count near list) = cond (eqb t s) count 0
 touchesFor s (deallocateCall t block) = cond (eqb t s) 1 0
 touchesFor s (precommitCall t) = 0
 touchesFor s (commitCall t) = 0

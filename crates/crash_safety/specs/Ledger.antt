@@ -13,7 +13,8 @@ use Rattle.bitmap.specs.Blocks.{member}
 pub data Kind : Type 0 where
   opening starting allocating deallocating precommitting committing rolling storing asking crashing : Kind
 
--- what the ledger is fed of a call: its kind, slot and block, its answer's number, and the numbers that an allocate lists
+-- what the ledger is fed of a call: its kind, slot and block, its answer's number, and the numbers that an allocate, of an
+-- extent or not, lists
 pub record Event : Type 0 where
   pub kind : Kind
   pub slot : ℕ

@@ -11,6 +11,7 @@ use crate::fixture::MAX_LENGTH;
 use crate::fixture::MAX_PLACES;
 use crate::fixture::Step;
 use crate::further::Further;
+use allocate_extent::allocate_extent;
 use commit_cost::commit_cost;
 
 // Word I of the disk becomes V.
@@ -78,6 +79,24 @@ fn ask_cost(fixture: Fixture, slot: u32, count: u32) -> Step
     }
 }
 
+// The call allocate extent, on the places that are lent. The list keeps what it wrote.
+fn grant_extent(fixture: Fixture, slot: u32, count: u32, near: u32) -> Step
+    requires { ⌜ Sized fixture ⌝ }
+    ensures { λ r. ⌜ Sized (r .fixture) ⌝ }
+{
+    let places = fixture.places;
+    let mut list = fixture.list;
+    let granted = allocate_extent(fixture.memory, slot, count, near, &mut list[..places]);
+    let answer = granted.answer;
+    let mut next = fixture.with_memory(granted.memory);
+    next.list = list;
+    Step {
+        fixture: next,
+        answer: answer.number(),
+        value: answer.value(),
+    }
+}
+
 // Any further line.
 pub fn alter(line: Further, fixture: Fixture) -> Step
     requires { ⌜ Sized fixture ⌝ }
@@ -99,6 +118,7 @@ pub fn alter(line: Further, fixture: Fixture) -> Step
         } => pending_work(fixture, kind, slot, done, due),
         Further::List { places } => list_places(fixture, places),
         Further::Cost { slot, count } => ask_cost(fixture, slot, count),
+        Further::Extent { slot, count, near } => grant_extent(fixture, slot, count, near),
         Further::Show => fixture.done(),
         Further::Malformed => fixture.malformed(),
     }

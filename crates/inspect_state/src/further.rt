@@ -46,6 +46,11 @@ pub enum Further {
         slot: u32,
         count: u32,
     },
+    Extent {
+        slot: u32,
+        count: u32,
+        near: u32,
+    },
     Show,
     Malformed,
 }
@@ -108,9 +113,20 @@ fn two(name: &[u8], first: u32, second: u32) -> Further {
 }
 
 // A word with three numbers.
-fn three(name: &[u8], slot: u32, index: u32, word: u32) -> Further {
+fn three(name: &[u8], slot: u32, second: u32, third: u32) -> Further {
     if same(name, b"tam") {
-        return Further::Tam { slot, index, word };
+        return Further::Tam {
+            slot,
+            index: second,
+            word: third,
+        };
+    }
+    if same(name, b"extent") {
+        return Further::Extent {
+            slot,
+            count: second,
+            near: third,
+        };
     }
     Further::Malformed
 }

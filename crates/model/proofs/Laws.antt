@@ -2,6 +2,7 @@
 pub mod Fields
 pub mod First
 pub mod Numbers
+pub mod Answered
 pub mod Writes
 pub mod Accepted
 pub mod FourCounts
@@ -27,5 +28,7 @@ pub mod Durable
 pub mod RecoveryLog
 pub mod TouchedBy
 pub mod CommitCost
+pub mod Extents
+pub mod Granting
 pub mod Opened
 pub mod Rows

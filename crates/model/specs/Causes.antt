@@ -1,4 +1,4 @@
--- Document 01's table, "Causes of refusal": when each cause holds. What a call tests is in Calls/.
+-- Document 01's table, "Causes of refusal", and the causes that document 02 adds: when each holds. What a call tests is in Calls/.
 use Prim.Native.Nat.{ℕ}
 use mathlib.Core.Bool.{Bool, not, _&&_}
 use mathlib.Core.List.{List}
@@ -6,7 +6,8 @@ use lib.ListN.{length}
 use lib.Dec.{leb, ltb, eqb}
 use Rattle.bitmap.specs.Sizes.{maxCount, blocksInRange, countInRange, slotInRange}
 use Rattle.bitmap.specs.Bits.{noBitsFrom}
-use Rattle.bitmap.specs.Blocks.{availableBlocks}
+use Rattle.bitmap.specs.Blocks.{isAvailable, availableBlocks}
+use Rattle.bitmap.specs.Extents.{starts}
 use Rattle.model.specs.Types.{Memory}
 use Rattle.model.specs.Sizes.{diskWords}
 use Rattle.model_types.specs.Memory.{slotAt, isActive, isPrecommitted, samBit, comBit}
@@ -101,3 +102,11 @@ blockFree memory b = not (samBit memory b)
 -- 20, "SAM 1 and COM 0 there"
 unfoldable pub blockFreeing : Memory → ℕ → Bool
 blockFreeing memory b = samBit memory b && not (comBit memory b)
+
+-- where the extents of so many available blocks start, lowest first
+unfoldable pub extentStarts : Memory → ℕ → List ℕ
+extentStarts memory count = starts (isAvailable (memory .sam .words) (memory .com .words)) (memory .blocks) count
+
+-- 22 (document 02, job 4), "if no such run exists"
+unfoldable pub noExtent : Memory → ℕ → Bool
+noExtent memory count = eqb (length (extentStarts memory count)) 0

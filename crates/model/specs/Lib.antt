@@ -11,6 +11,7 @@ pub mod Causes
 pub mod Calls
 pub mod FourCounts
 pub mod CostKept
+pub mod Extents
 pub mod Completion
 pub mod Outcome
 pub mod Line

@@ -2,13 +2,14 @@
 use Prim.Native.Nat.{ℕ}
 use mathlib.Core.List.{List, []}
 use lib.ListN.{take}
-use Rattle.model.specs.Types.{Memory}
+use Rattle.model.specs.Types.{Memory, GrantAnswer}
 use Rattle.model_types.specs.Memory.{zeroMemory}
 use Rattle.model_types.specs.Answers.{doneNumber, grantNumber, grantValue, storesNumber, storesValue, statusNumber, statusValue}
 use Rattle.model.specs.Calls.Format.{formatAnswer, formatDisk}
 use Rattle.model.specs.Calls.Opening.{openAnswer, openMemory}
 use Rattle.model.specs.Calls.Start.{startAnswer, startMemory}
 use Rattle.model.specs.Calls.Allocate.{allocateAnswer, allocateMemory, allocateList}
+use Rattle.model.specs.Calls.AllocateExtent.{allocateExtentAnswer, allocateExtentMemory, allocateExtentList}
 use Rattle.model.specs.Calls.Deallocate.{deallocateAnswer, deallocateMemory}
 use Rattle.model.specs.Calls.Precommit.{precommitAnswer, precommitMemory}
 use Rattle.model.specs.Calls.Committing.{commitAnswer, commitMemory}
@@ -22,6 +23,7 @@ pub data Call : Type 0 where
   openCall : Call
   startCall : ℕ → Call
   allocateCall : ℕ → ℕ → List ℕ → Call
+  allocateExtentCall : ℕ → ℕ → ℕ → List ℕ → Call
   deallocateCall : ℕ → ℕ → Call
   precommitCall : ℕ → Call
   commitCall : ℕ → Call
@@ -43,18 +45,23 @@ pub record Outcome : Type 0 where
 abbrev pub outcomeOf : Memory → List ℕ → ℕ → ℕ → Outcome
 outcomeOf memory disk number value = record { memory = memory; disk = disk; number = number; value = value; listed = [] }
 
--- each call by its definition; the list lent to an allocate is read in its first places
+-- of one that grants blocks, and lists their numbers
+abbrev pub grantOutcome : Memory → List ℕ → GrantAnswer → List ℕ → Outcome
+grantOutcome memory disk answer listed =
+    record { memory = memory; disk = disk; number = grantNumber answer; value = grantValue answer; listed = listed }
+
+-- each call by its definition; a list lent to a call that grants blocks is read in its first places
 unfoldable pub outcome : Call → Memory → List ℕ → Outcome
 outcome openCall memory disk = outcomeOf (openMemory disk) disk (storesNumber (openAnswer disk)) (storesValue (openAnswer disk))
 outcome (startCall s) memory disk = outcomeOf (startMemory memory s) disk (doneNumber (startAnswer memory s)) 0
 outcome (allocateCall s count list) memory disk =
-    record {
-      memory = allocateMemory memory s count list;
-      disk = disk;
-      number = grantNumber (allocateAnswer memory s count list);
-      value = grantValue (allocateAnswer memory s count list);
-      listed = take count (allocateList memory s count list);
-    }
+    grantOutcome (allocateMemory memory s count list) disk (allocateAnswer memory s count list) (take count (allocateList memory s count list))
+outcome (allocateExtentCall s count near list) memory disk =
+    grantOutcome
+    (allocateExtentMemory memory s count near list)
+    disk
+    (allocateExtentAnswer memory s count near list)
+    (take count (allocateExtentList memory s count near list))
 outcome (deallocateCall s block) memory disk = outcomeOf (deallocateMemory memory s block) disk (doneNumber (deallocateAnswer memory s block)) 0
 outcome (precommitCall s) memory disk = outcomeOf (precommitMemory memory s) disk (doneNumber (precommitAnswer memory s)) 0
 outcome (commitCall s) memory disk =

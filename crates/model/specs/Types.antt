@@ -7,7 +7,7 @@ pub use Rattle.model_types.specs.declared.memory.Pending.{Pending}
 pub use Rattle.model_types.specs.declared.memory.Pending.the-variants.{Nothing, Commit, Recovery}
 pub use Rattle.model_types.specs.declared.memory.Memory.{Memory}
 pub use Rattle.model_types.specs.declared.error.Error.{Error}
-pub use Rattle.model_types.specs.declared.error.Error.the-variants.{MemoryInvalid, DiskLength, DiskBlocks, DiskBitmap, DiskLog, DiskMismatch, BlocksRange, WorkPending, NothingPending, SlotRange, SlotBusy, SlotIdle, SlotPrecommitted, SlotNotPrecommitted, CountRange, ListShort, TooFewAvailable, BlockRange, BlockFree, BlockFreeing, LineMalformed}
+pub use Rattle.model_types.specs.declared.error.Error.the-variants.{MemoryInvalid, DiskLength, DiskBlocks, DiskBitmap, DiskLog, DiskMismatch, BlocksRange, WorkPending, NothingPending, SlotRange, SlotBusy, SlotIdle, SlotPrecommitted, SlotNotPrecommitted, CountRange, ListShort, TooFewAvailable, BlockRange, BlockFree, BlockFreeing, LineMalformed, NoExtent}
 pub use Rattle.model_types.specs.declared.answer.Answer.{Answer}
 pub use Rattle.model_types.specs.declared.answer.GrantAnswer.{GrantAnswer}
 pub use Rattle.model_types.specs.declared.answer.StoresAnswer.{StoresAnswer}

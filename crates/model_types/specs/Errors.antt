@@ -1,9 +1,9 @@
--- Document 01's number for each error.
+-- The papers' number for each error.
 use Prim.Native.Nat.{ℕ}
 use Rattle.model_types.specs.declared.error.Error.{Error}
-use Rattle.model_types.specs.declared.error.Error.the-variants.{MemoryInvalid, DiskLength, DiskBlocks, DiskBitmap, DiskLog, DiskMismatch, BlocksRange, WorkPending, NothingPending, SlotRange, SlotBusy, SlotIdle, SlotPrecommitted, SlotNotPrecommitted, CountRange, ListShort, TooFewAvailable, BlockRange, BlockFree, BlockFreeing, LineMalformed}
+use Rattle.model_types.specs.declared.error.Error.the-variants.{MemoryInvalid, DiskLength, DiskBlocks, DiskBitmap, DiskLog, DiskMismatch, BlocksRange, WorkPending, NothingPending, SlotRange, SlotBusy, SlotIdle, SlotPrecommitted, SlotNotPrecommitted, CountRange, ListShort, TooFewAvailable, BlockRange, BlockFree, BlockFreeing, LineMalformed, NoExtent}
 
--- the column "No." of document 01's table
+-- the column "No." of document 01's table. "Causes that these jobs add join document 01's table" (document 02, job 4)
 abbrev pub code : Error → ℕ
 code MemoryInvalid = 1
 code DiskLength = 2
@@ -26,3 +26,4 @@ code BlockRange = 18
 code BlockFree = 19
 code BlockFreeing = 20
 code LineMalformed = 21
+code NoExtent = 22

@@ -1,4 +1,4 @@
-// The causes of refusal of document 01's table, each with its number there.
+// The causes of refusal of document 01's table, and of the jobs of document 02 that have landed, each with its number there.
 ghost use mathlib.Core.Path.{_≡_};
 ghost use Rattle.model_types.specs.Errors.{code};
 
@@ -24,10 +24,11 @@ pub enum Error {
     BlockFree,
     BlockFreeing,
     LineMalformed,
+    NoExtent,
 }
 
 impl Error {
-    // Document 01's number of the cause.
+    // The papers' number of the cause.
     pub fn code(self) -> u32
         ensures { λ r. ⌜ r ≡ code self ⌝ }
     {
@@ -53,6 +54,7 @@ impl Error {
             Error::BlockFree => 19,
             Error::BlockFreeing => 20,
             Error::LineMalformed => 21,
+            Error::NoExtent => 22,
         }
     }
 }

@@ -1,2 +1,3 @@
--- The definitions at work: document 01's readings.
+-- The definitions at work: document 01's readings, and extents.
 pub mod Table
+pub mod Extents

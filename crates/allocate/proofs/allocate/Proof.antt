@@ -17,9 +17,10 @@ use Rattle.model_types.proofs.Laws.Shape.{Shaped, shaped}
 use Rattle.model.proofs.Laws.Valid.{valid-parts}
 use Rattle.model.proofs.Laws.Accepted.{AllocateAccepted, precommit-accepted, allocate-accepted}
 use Rattle.verdicts.specs.Verdicts.{verdict}
-use Rattle.verdicts.proofs.Laws.Verdicts.{error-of, accepted-none, accepted-leaves, refused-leaves}
+use Rattle.verdicts.proofs.Laws.Verdicts.{error-of, accepted-none, accepted-leaves, refused-leaves, first-answered, none-answered}
 use Rattle.verdicts.proofs.Laws.Ready.{index-is, own-slot, owner-read, open-verdict}
-use Rattle.allocate.proofs.Laws.Allocate.{allocate-verdict, can-take, took, listed, first-listed, first-answered, none-answered}
+use Rattle.available.proofs.Laws.Took.{took, first-listed}
+use Rattle.allocate.proofs.Laws.Allocate.{allocate-verdict, some-lowest, can-take, took-lowest}
 use borrow.Author.Needs.{needs}
 use Rattle.allocate.proofs.allocate.Statement.{statement}
 use Rattle.allocate.proofs.allocate.Tie as tie
@@ -139,15 +140,15 @@ returns c =
     (λ w.
     let t = told (record { before = tested; if1 = w .0 }) in
     let read = own-slot (a .memory) _ (a .slot) shape looked (t .ready .below) in
-    let in-list = listed (a .memory) (a .slot) (a .count) (a .list .now) _ read _ _ _ (w .6 .ensures) in (
+    let taken = took-lowest (a .memory) (a .count) _ (a .list .now) _ _ _ (w .6 .ensures) in (
       w .13
-          ∙ ap GrantAnswer.First (first-listed (a .memory) (a .slot) (a .count) (a .list .now) t _ in-list)
+          ∙ ap GrantAnswer.First (first-listed (a .count) (lowest (a .memory) (a .count)) (a .list .now) _ (some-lowest (a .memory) (a .slot) (a .count) (a .list .now) t) (taken .listed))
           ∙ first-answered error _ (accepted-none error is test (w .0 .taken)),
       (
         ap₂ (λ («com» : Bitmap) (slots : List Slot). withSlots (withCom (a .memory) «com») slots) (w .11) (w .12 ∙ ap₂ (set (a .memory .slots)) (index-is (a .slot) looked (t .ready .below)) refl)
-            ∙ took (a .memory) (a .slot) (a .count) (a .list .now) _ read _ _ _ (w .6 .ensures)
+            ∙ took (a .memory) (a .slot) (a .count) _ read (lowest (a .memory) (a .count)) (a .list .now) _ _ _ taken
             ∙ accepted-leaves error new (a .memory) is test (w .0 .taken),
-        w .10 ∙ in-list ∙ accepted-leaves error list (a .list .now) is test (w .0 .taken),
+        w .10 ∙ taken .listed ∙ accepted-leaves error list (a .list .now) is test (w .0 .taken),
       ),
     ))
     (λ w. (

@@ -1,6 +1,6 @@
 -- The available blocks of a word: which bits they are.
 use Prim.Native.Nat.{ℕ, _+_, _-_, _*_, _%_, _^_, _≤_, _<_, min}
-use native.Mathlib.Nat.{sub-zero, lt-of-le-of-lt, mod-eq-of-lt}
+use native.Mathlib.Nat.{lt-of-le-of-lt, mod-eq-of-lt}
 use native.Mathlib.Omega.{arith}
 use mathlib.Core.Path.{_≡_, refl, sym, ap, ap₂, _∙_}
 use mathlib.Core.Logic.{⊎-elim}
@@ -9,28 +9,18 @@ use mathlib.Core.List.{List}
 use lib.ListN.{getD}
 use lib.Dec.{ltb}
 use lib.Bits.{bitAnd, bitOr, and-le-l, and-mask, or-lt}
-use lib.Pow.{pow-pos, ones-lt, ones-sub-lt}
+use lib.Pow.{ones-sub-lt}
 use borrow.Author.Tests.{lt-ltb, le-ltb}
 use Rattle.bitmap.specs.Sizes.{wordBits}
 use Rattle.bitmap.specs.Bits.{isSet, IsBitmap}
 use Rattle.bitmap.specs.Blocks.{from, isAvailable}
-use Rattle.bitmap.proofs.Laws.Word.{isSet-zero, isSet-small, isSet-and, isSet-or, isSet-not}
+use Rattle.bitmap.proofs.Laws.Word.{isSet-and, isSet-or, isSet-not, isSet-ones}
 use Rattle.bitmap.proofs.Laws.Bits.{below-or-from, bit-word}
 use Rattle.bitmap.proofs.Laws.Blocks.{from-same}
 use Rattle.available.specs.Available.{availableWord, availableFrom}
 use Rattle.bitops.proofs.Laws.Block.{shift-one}
 
 -- ---- words
-
--- the n lowest bits
-isSet-ones : (n i : ℕ) → isSet (2 ^ n - 1) i ≡ ltb i n
-isSet-ones n i = ⊎-elim low high (below-or-from i n)
-  where
-    low : i < n → isSet (2 ^ n - 1) i ≡ ltb i n
-    low h = ap (λ (x : ℕ). isSet x i) (sym (sub-zero (2 ^ n - 1))) ∙ isSet-not n 0 i (pow-pos n) h ∙ ap not (isSet-zero i) ∙ sym (lt-ltb i n h)
-
-    high : n ≤ i → isSet (2 ^ n - 1) i ≡ ltb i n
-    high h = isSet-small (2 ^ n - 1) n i (ones-lt n) h ∙ sym (le-ltb i n h)
 
 -- neither of two
 not-or : (a b : Bool) → not (a || b) ≡ (not a && not b)

@@ -14,7 +14,7 @@ use Rattle.bitmap.specs.Blocks.{isAvailable, availableBlocks, member}
 use Rattle.bitmap.proofs.Laws.Bits.{bitmapOf-is, bitmapOf-bit}
 use Rattle.bitmap.proofs.Laws.Blocks.{member-from-true, from-same}
 use Rattle.bitops.specs.Block.{putBit}
-use Rattle.available.specs.Take.{Takes}
+use Rattle.available.specs.Take.{Takes, lowestBlocks}
 use Rattle.available.specs.Available.{availableFrom, nextAvailable}
 use Rattle.bitops.proofs.Laws.Overwrite.{overwritten-step}
 use Rattle.bitops.proofs.Laws.Block.{bit-put, put-member}
@@ -26,7 +26,7 @@ withBlocks m blocks words = bitmapOf m (λ b. member b blocks || bit words b)
 
 -- the first n available blocks have been taken, and the others are those from the block next on
 pub record Taken (m : ℕ) (sam com₀ tam₀ list₀ : List ℕ) (n next : ℕ) («com» tam list : List ℕ) : Type 0 where
-  pub takes : Takes m n sam com₀ tam₀ list₀ «com» tam list
+  pub takes : Takes m n (lowestBlocks m n sam com₀) com₀ tam₀ list₀ «com» tam list
   pub left : drop n (availableBlocks m sam com₀) ≡ availableFrom m sam com₀ next
   pub same : (b : ℕ) → next ≤ b → bit «com» b ≡ bit com₀ b
 

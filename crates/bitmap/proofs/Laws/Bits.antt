@@ -55,7 +55,7 @@ bit-beyond words b e h =
     rw (List·getD-eq-default words 0 l, isSet-zero)
 
 -- each word of the empty bitmap is 0
-getD-zeros : (n k : ℕ) → getD {A = ℕ} (replicate n 0) k 0 ≡ 0
+pub getD-zeros : (n k : ℕ) → getD {A = ℕ} (replicate n 0) k 0 ≡ 0
 getD-zeros zero k = refl
 getD-zeros (suc n) zero = refl
 getD-zeros (suc n) (suc k) = getD-zeros n k

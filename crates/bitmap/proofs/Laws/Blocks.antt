@@ -42,7 +42,7 @@ member-append b [] ys = refl
 member-append b (x ∷ xs) ys = ap (λ (t : Bool). eqb b x || t) (member-append b xs ys) ∙ sym (or-assoc (eqb b x) (member b xs) (member b ys))
 
 -- a block of a list is its first or in its rest
-member-cons : (b x : ℕ) (xs : List ℕ) → member b (x ∷ xs) ≡ true → (b ≡ x) ⊎ (member b xs ≡ true)
+pub member-cons : (b x : ℕ) (xs : List ℕ) → member b (x ∷ xs) ≡ true → (b ≡ x) ⊎ (member b xs ≡ true)
 unfolding member
 member-cons b x xs h = go (eqb b x) refl h
   where
@@ -51,7 +51,7 @@ member-cons b x xs h = go (eqb b x) refl h
     go false e k = inr k
 
 -- a list's rest has no more than the list
-member-rest : (b x : ℕ) (xs : List ℕ) → member b xs ≡ true → member b (x ∷ xs) ≡ true
+pub member-rest : (b x : ℕ) (xs : List ℕ) → member b xs ≡ true → member b (x ∷ xs) ≡ true
 unfolding member
 member-rest b x xs h = rw (h, or-true)
 

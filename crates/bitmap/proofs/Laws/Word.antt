@@ -1,12 +1,13 @@
 -- A word's bits, at any width: which bits a word has, and that a word is known by them.
 use Prim.Native.Nat.{ℕ, zero, suc, _+_, _-_, _*_, _/_, _%_, _^_, _≤_, _<_, zero-le, min, max}
-use native.Mathlib.Nat.{div-one, add-zero, add-suc, suc-add, zero-div, div-eq-of-lt, pow-succ', div-div-eq-div-mul, not-suc-le-zero}
+use native.Mathlib.Nat.{div-one, add-zero, add-suc, suc-add, sub-zero, zero-div, div-eq-of-lt, pow-succ', div-div-eq-div-mul, not-suc-le-zero, le-of-suc-le-suc}
 use native.Mathlib.Omega.{arith}
 use mathlib.Core.Path.{_≡_, refl, sym, ap, ap₂, _∙_}
-use mathlib.Core.Bool.{Bool, true, false, not, xor, cond, _&&_, _||_}
-use lib.Dec.{eqb, eqb·suc-suc, eqb·zero-suc, eqb·suc-zero}
-use lib.Pow.{pow-pos, pow-mono}
-use lib.Bits.{bitAnd, bitOr, bitXor, differ, and-step, or-step, xor-step}
+use mathlib.Core.Bool.{Bool, true, false, not, xor, cond, _&&_, _||_, and-true}
+use lib.Dec.{eqb, ltb, eqb·suc-suc, eqb·zero-suc, eqb·suc-zero}
+use lib.Pow.{pow-pos, pow-mono, ones-lt, shr-shr, shl-shr}
+use lib.Bits.{bitAnd, bitOr, bitXor, differ, and-step, or-step, xor-step, and-mask, shifted-half, shifted-even}
+use borrow.Author.Tests.{ltb-true, ltb-false, lt-ltb}
 use Rattle.bitmap.specs.Bits.{isSet, wordOf}
 
 -- ---- the lowest bit, and the rest
@@ -186,3 +187,37 @@ isSet-pow (suc j) zero = let e : 2 ^ suc j % 2 ≡ 0 = omega arith in rw (isSet-
 isSet-pow (suc j) (suc i) =
     let e : 2 ^ suc j / 2 ≡ 2 ^ j = omega arith in
     isSet-half (2 ^ suc j) i ∙ ap (λ (x : ℕ). isSet x i) e ∙ isSet-pow j i ∙ sym (eqb·suc-suc i j)
+
+-- ---- words cut and shifted
+
+-- the n lowest bits
+pub isSet-ones : (n i : ℕ) → isSet (2 ^ n - 1) i ≡ ltb i n
+isSet-ones n i = go (ltb i n) refl
+  where
+    go : (t : Bool) → ltb i n ≡ t → isSet (2 ^ n - 1) i ≡ t
+    go true e = ap (λ (x : ℕ). isSet x i) (sym (sub-zero (2 ^ n - 1))) ∙ isSet-not n 0 i (pow-pos n) (ltb-true i n e) ∙ ap not (isSet-zero i)
+    go false e = isSet-small (2 ^ n - 1) n i (ones-lt n) (ltb-false i n e)
+
+-- the bits below n of a word cut there are the word's
+pub isSet-cut : (w n i : ℕ) → i < n → isSet (w % 2 ^ n) i ≡ isSet w i
+isSet-cut w n i h =
+    ap (λ (x : ℕ). isSet x i) (sym (and-mask w n))
+    ∙ isSet-and w (2 ^ n - 1) i
+    ∙ ap (λ (t : Bool). isSet w i && t) (isSet-ones n i ∙ lt-ltb i n h)
+    ∙ and-true (isSet w i)
+
+-- a word's bits, shifted down
+pub isSet-down : (w j i : ℕ) → isSet (w / 2 ^ j) i ≡ isSet w (j + i)
+unfolding isSet
+isSet-down w j i = ap (λ (x : ℕ). eqb (x % 2) 1) (shr-shr w j i)
+
+-- and shifted up: those from j on are the word's,
+pub isSet-up : (w j i : ℕ) → isSet (w * 2 ^ j) (j + i) ≡ isSet w i
+isSet-up w j i = sym (isSet-down (w * 2 ^ j) j i) ∙ ap (λ (x : ℕ). isSet x i) (shl-shr w j)
+
+-- and there are none below
+pub isSet-below : (w j i : ℕ) → i < j → isSet (w * 2 ^ j) i ≡ false
+isSet-below w zero i h = absurd (not-suc-le-zero h)
+isSet-below w (suc j) zero h = isSet-low (w * 2 ^ suc j) ∙ ap (λ (x : ℕ). eqb x 1) (shifted-even w j)
+isSet-below w (suc j) (suc i) h =
+    isSet-half (w * 2 ^ suc j) i ∙ ap (λ (x : ℕ). isSet x i) (shifted-half w j) ∙ isSet-below w j i (le-of-suc-le-suc h)

@@ -13,13 +13,14 @@ use Rattle.model.specs.Causes.{memoryInvalid}
 use Rattle.model.specs.Calls.Opening.{opened, openMemory}
 use Rattle.model.specs.Calls.Start.{startError, startMemory}
 use Rattle.model.specs.Calls.Allocate.{allocateError, allocateMemory}
+use Rattle.model.specs.Calls.AllocateExtent.{allocateExtentError, allocateExtentMemory}
 use Rattle.model.specs.Calls.Deallocate.{deallocateError, deallocateMemory}
 use Rattle.model.specs.Calls.Precommit.{precommitError, precommitMemory}
 use Rattle.model.specs.Calls.Committing.{commitError, commitMemory}
 use Rattle.model.specs.Calls.Rollback.{rollbackError, rollbackMemory}
 use Rattle.model.specs.Calls.Storing.{storeError, storeMemory}
 use Rattle.model.specs.Calls.Format.{formatDisk}
-use Rattle.model.specs.Outcome.{Call, outcome, openCall, startCall, allocateCall, deallocateCall, precommitCall, commitCall, rollbackCall, storeCall, statusCall, commitCostCall, crashCall}
+use Rattle.model.specs.Outcome.{Call, outcome, openCall, startCall, allocateCall, allocateExtentCall, deallocateCall, precommitCall, commitCall, rollbackCall, storeCall, statusCall, commitCostCall, crashCall}
 use Rattle.crash_safety.specs.World.{World, begin, step, run}
 use Rattle.model.proofs.Laws.DiskParts.{opens-parts}
 use Rattle.model.proofs.Laws.Valid.{parts-valid}
@@ -27,7 +28,7 @@ use Rattle.model.proofs.Laws.Opened.{opened-valid, opened-matches}
 use Rattle.crash_safety.specs.InOrder.{Consistent, InUse, InOrder, AlwaysInOrder, NoCrash, InUseFromOpen}
 use Rattle.crash_safety.proofs.Invariant.{Invariant}
 use Rattle.crash_safety.proofs.Keeps.{step-keeps, run-keeps, begins-formatted}
-use Rattle.crash_safety.proofs.InOrder.Touching.{start-consistent, precommit-consistent, rollback-consistent, allocate-consistent, deallocate-consistent}
+use Rattle.crash_safety.proofs.InOrder.Touching.{start-consistent, precommit-consistent, rollback-consistent, allocate-consistent, allocate-extent-consistent, deallocate-consistent}
 use Rattle.crash_safety.proofs.InOrder.Commit.{commit-consistent}
 use Rattle.crash_safety.proofs.InOrder.Store.{store-consistent}
 
@@ -55,6 +56,8 @@ step-uses openCall w i c = inr (open-uses w i)
 step-uses (startCall s) w i c = inr (start-consistent (w .memory) (w .disk) (i .related (c .is-valid) .slots) c s)
 step-uses (allocateCall s count list) w i c =
     inr (allocate-consistent (w .memory) (w .disk) (i .related (c .is-valid) .slots) c s count list)
+step-uses (allocateExtentCall s count near list) w i c =
+    inr (allocate-extent-consistent (w .memory) (w .disk) (i .related (c .is-valid) .slots) c s count near list)
 step-uses (deallocateCall s block) w i c =
     inr (deallocate-consistent (w .memory) (w .disk) (i .related (c .is-valid) .slots) c s block)
 step-uses (precommitCall s) w i c = inr (precommit-consistent (w .memory) (w .disk) (i .related (c .is-valid) .slots) c s)
@@ -74,10 +77,11 @@ run-uses (call ∷ calls) w n i c =
 
 -- a memory of zeros is refused by every call but open
 zeros-stay : (call : Call) (w : World) → Invariant w → w .memory ≡ zeroMemory → InOrder (step call w)
-unfolding step outcome startMemory startError allocateMemory allocateError deallocateMemory deallocateError precommitMemory precommitError commitMemory commitError rollbackMemory rollbackError storeMemory storeError memoryInvalid valid blocksInRange first firstOr unlessRefused
+unfolding step outcome startMemory startError allocateMemory allocateError allocateExtentMemory allocateExtentError deallocateMemory deallocateError precommitMemory precommitError commitMemory commitError rollbackMemory rollbackError storeMemory storeError memoryInvalid valid blocksInRange first firstOr unlessRefused
 zeros-stay openCall w i e = inr (open-uses w i)
 zeros-stay (startCall s) w i e = inl (ap (λ (m : Memory). startMemory m s) e)
 zeros-stay (allocateCall s count list) w i e = inl (ap (λ (m : Memory). allocateMemory m s count list) e)
+zeros-stay (allocateExtentCall s count near list) w i e = inl (ap (λ (m : Memory). allocateExtentMemory m s count near list) e)
 zeros-stay (deallocateCall s block) w i e = inl (ap (λ (m : Memory). deallocateMemory m s block) e)
 zeros-stay (precommitCall s) w i e = inl (ap (λ (m : Memory). precommitMemory m s) e)
 zeros-stay (commitCall s) w i e = inl (ap (λ (m : Memory). commitMemory m s) e)

@@ -1,22 +1,25 @@
--- Start, allocate, deallocate, precommit and rollback leave a valid memory, and SAM as it was.
+-- Start, allocate, of an extent or not, deallocate, precommit and rollback leave a valid memory, and SAM as it was.
 use Prim.Native.Nat.{ℕ, _<_}
 use native.Mathlib.Omega.{arith}
 use mathlib.Core.Path.{_≡_, refl, _∙_}
-use mathlib.Core.Bool.{true}
+use mathlib.Core.Option.{Option, none}
 use mathlib.Core.List.{List}
 use lib.ListN.{length}
 use Rattle.bitmap.specs.Sizes.{slotCount}
+use Rattle.model_types.specs.declared.error.Error.{Error}
 use Rattle.model_types.specs.declared.memory.Memory.{Memory}
-use Rattle.model_types.specs.Memory.{slotAt, isActive}
+use Rattle.model.specs.First.{unlessRefused}
 use Rattle.model.specs.Calls.Start.{startError, started, startMemory}
 use Rattle.model.specs.Calls.Allocate.{allocateError, lowest, taking, allocateMemory}
+use Rattle.model.specs.Calls.AllocateExtent.{allocateExtentError, nearestExtent, allocateExtentMemory}
 use Rattle.model.specs.Calls.Deallocate.{deallocateError, freeing, deallocateMemory}
 use Rattle.model.specs.Calls.Precommit.{precommitError, precommitting, precommitMemory}
 use Rattle.model.specs.Calls.Rollback.{rollbackError, rolledBack, rollbackMemory}
-use Rattle.model.proofs.Laws.Accepted.{Ready, start-accepted, allocate-accepted, deallocate-accepted, precommit-accepted, rollback-accepted}
+use Rattle.model.proofs.Laws.Accepted.{Ready, start-accepted, deallocate-accepted, precommit-accepted, rollback-accepted}
 use Rattle.model.proofs.Laws.Valid.{ValidParts, valid-parts}
 use Rattle.model.proofs.Laws.Untouched.{started-valid, precommitted-valid}
-use Rattle.model.proofs.Laws.Taking.{AllAvailable, grant-valid, lowest-available, freeing-valid}
+use Rattle.model.proofs.Laws.Taking.{grant-valid, freeing-valid}
+use Rattle.model.proofs.Laws.Granting.{Grants, allocate-grants, allocate-extent-grants}
 use Rattle.model.proofs.Laws.Rollback.{rolled-back-valid}
 use Rattle.crash_safety.specs.InOrder.{Consistent}
 use Rattle.crash_safety.proofs.InOrder.Refused.{unless-refused, same-sam}
@@ -64,20 +67,26 @@ module _ (memory : Memory) (disk : List ℕ) (eight : length (memory .slots) ≡
       (rolled-back-valid memory parts s (a .ready .nothing-pending) (there s (a .ready)) (a .active)))
 
   -- a grant of any available blocks
-  pub grant-consistent : (s : ℕ) (blocks : List ℕ) → AllAvailable memory blocks → Ready memory s → isActive (slotAt memory s .state) ≡ true
-      → Consistent (taking memory s blocks) disk
+  grant-consistent : (s count : ℕ) (blocks : List ℕ) (error : Option Error) → (error ≡ none → Grants memory s count blocks)
+      → Consistent (unlessRefused error (taking memory s blocks) memory) disk
   unfolding taking
-  grant-consistent s blocks all ready active =
-      still s (taking memory s blocks) ready refl refl refl
-      (grant-valid memory s blocks all parts (ready .nothing-pending) (there s ready) active)
+  grant-consistent s count blocks error grants =
+      unless-refused memory (taking memory s blocks) disk error c
+      (λ e.
+      let g = grants e in
+      still s (taking memory s blocks) (g .ready) refl refl refl
+      (grant-valid memory s blocks (g .available) parts (g .ready .nothing-pending) (there s (g .ready)) (g .active)))
 
   pub allocate-consistent : (s count : ℕ) (list : List ℕ) → Consistent (allocateMemory memory s count list) disk
   unfolding allocateMemory
   allocate-consistent s count list =
-      unless-refused memory (taking memory s (lowest memory count)) disk (allocateError memory s count list) c
-      (λ e.
-      let a = allocate-accepted memory s count list e in
-      grant-consistent s (lowest memory count) (lowest-available memory count) (a .ready) (a .active))
+      grant-consistent s count (lowest memory count) (allocateError memory s count list) (allocate-grants memory s count list)
+
+  pub allocate-extent-consistent : (s count near : ℕ) (list : List ℕ) → Consistent (allocateExtentMemory memory s count near list) disk
+  unfolding allocateExtentMemory
+  allocate-extent-consistent s count near list =
+      grant-consistent s count (nearestExtent memory count near) (allocateExtentError memory s count near list)
+      (allocate-extent-grants memory s count near list)
 
   pub deallocate-consistent : (s block : ℕ) → Consistent (deallocateMemory memory s block) disk
   unfolding deallocateMemory freeing

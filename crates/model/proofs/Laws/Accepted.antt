@@ -1,13 +1,14 @@
 -- What the acceptance of a call tells, by name: for each call the causes of its list that don't hold. Below `cN` is what is
 -- left of the list from cause N on.
 use Prim.Native.Nat.{ℕ, _≤_, _<_}
+use native.Mathlib.Omega.{arith}
 use mathlib.Core.Path.{_≡_, refl, ap, _∙_}
 use mathlib.Core.Bool.{Bool, true, false, not, _&&_, false≢true}
 use mathlib.Core.Option.{none}
 use mathlib.Core.List.{List, [], _∷_}
 use lib.ListN.{length}
 use lib.Dec.{leb, eqb}
-use borrow.Author.Tests.{leb-true, leb-false, ltb-true, ltb-false, lt-ltb, le-ltb, eqb-true, eq-eqb, not-false}
+use borrow.Author.Tests.{leb-true, leb-false, ltb-true, ltb-false, lt-ltb, le-ltb, eqb-true, eqb-false, eq-eqb, not-false}
 use Rattle.bitmap.specs.Sizes.{slotCount, maxCount, blocksInRange, countInRange, slotInRange}
 use Rattle.model.specs.Types.{Pending, Nothing, Commit, Recovery, Memory, SlotPrecommitted, SlotNotPrecommitted, CountRange, TooFewAvailable}
 use Rattle.model.specs.Sizes.{diskWords}
@@ -15,11 +16,12 @@ use Rattle.model_types.specs.Memory.{slotAt, isActive, isPrecommitted, samBit, 
 use Rattle.model.specs.Valid.{valid}
 use Rattle.model.specs.Disk.{diskMatches}
 use Rattle.model.specs.First.{first, firstOr, _⇒_}
-use Rattle.model.specs.Causes.{memoryInvalid, diskLengthWrong, diskMismatched, blocksOutOfRange, nothingPending, workPending, slotOutOfRange, slotActive, slotInactive, slotPrecommitted, slotNotPrecommitted, countOutOfRange, countTooLarge, listShort, available, tooFewAvailable, blockOutOfRange, blockFree, blockFreeing}
+use Rattle.model.specs.Causes.{memoryInvalid, diskLengthWrong, diskMismatched, blocksOutOfRange, nothingPending, workPending, slotOutOfRange, slotActive, slotInactive, slotPrecommitted, slotNotPrecommitted, countOutOfRange, countTooLarge, listShort, available, tooFewAvailable, blockOutOfRange, blockFree, blockFreeing, extentStarts, noExtent}
 use Rattle.model_types.specs.Pending.{isNothing}
 use Rattle.model.specs.Calls.Format.{formatError}
 use Rattle.model.specs.Calls.Start.{startError}
 use Rattle.model.specs.Calls.Allocate.{allocateError}
+use Rattle.model.specs.Calls.AllocateExtent.{allocateExtentError}
 use Rattle.model.specs.Calls.Deallocate.{deallocateError}
 use Rattle.model.specs.Calls.Precommit.{precommitError}
 use Rattle.model.specs.Calls.Committing.{commitError}
@@ -57,6 +59,33 @@ slot-active : (memory : Memory) (s : ℕ) → slotInactive memory s ≡ false �
 unfolding slotInactive slotActive
 slot-active memory s e = not-false (isActive (slotAt memory s .state)) e
 
+-- 15
+module _ (count : ℕ) (e : countOutOfRange count ≡ false) where
+  in-range : (leb 1 count && leb count maxCount) ≡ true
+  unfolding countOutOfRange countInRange
+  in-range = not-false (leb 1 count && leb count maxCount) e
+
+  pub count-some : 1 ≤ count
+  count-some = leb-true 1 count (and-first (leb 1 count) (leb count maxCount) in-range)
+
+  pub count-few : count ≤ maxCount
+  count-few = leb-true count maxCount (and-second (leb 1 count) (leb count maxCount) in-range)
+
+-- 16
+list-as-long : (list : List ℕ) (count : ℕ) → listShort list count ≡ false → count ≤ length list
+unfolding listShort
+list-as-long list count e = ltb-false (length list) count e
+
+-- 17
+enough-available : (memory : Memory) (count : ℕ) → tooFewAvailable memory count ≡ false → count ≤ length (available memory)
+unfolding tooFewAvailable
+enough-available memory count e = ltb-false (length (available memory)) count e
+
+-- 18
+pub block-below : (memory : Memory) (b : ℕ) → blockOutOfRange memory b ≡ false → b < memory .blocks
+unfolding blockOutOfRange
+block-below memory b e = leb-false (memory .blocks) b e
+
 -- 2
 disk-length : (disk : List ℕ) → diskLengthWrong disk ≡ false → length disk ≡ diskWords
 unfolding diskLengthWrong
@@ -67,7 +96,12 @@ both-set : (sam «com» : Bool) → sam ≡ true → (sam && not «com») ≡ fa
 both-set true «com» s e = not-false «com» e
 both-set false «com» s e = absurd (false≢true s)
 
--- ---- the six transaction calls, and commit cost
+-- 22
+extent-found : (memory : Memory) (count : ℕ) → noExtent memory count ≡ false → 1 ≤ length (extentStarts memory count)
+unfolding noExtent
+extent-found memory count e = let some = eqb-false (length (extentStarts memory count)) 0 e in omega (arith, some)
+
+-- ---- the seven transaction calls, and commit cost
 
 -- 1, 8 and 10: the memory is valid, nothing is pending, and the slot is there
 pub record Ready (memory : Memory) (s : ℕ) : Type 0 where
@@ -103,7 +137,7 @@ module _ (memory : Memory) (s : ℕ) where
     pub enough : count ≤ length (available memory)
 
   pub allocate-accepted : (count : ℕ) (list : List ℕ) → allocateError memory s count list ≡ none → AllocateAccepted count list
-  unfolding allocateError slotPrecommitted countOutOfRange countInRange listShort tooFewAvailable
+  unfolding allocateError slotPrecommitted
   allocate-accepted count list e =
       let c1 = first-none _ e in
       let c8 = c1 .1 in
@@ -113,15 +147,47 @@ module _ (memory : Memory) (s : ℕ) where
       let c15 = c13 .1 in
       let c16 = c15 .1 in
       let c17 = c16 .1 in
-      let in-range : (leb 1 count && leb count maxCount) ≡ true = not-false (leb 1 count && leb count maxCount) (c15 .0) in
       record {
         ready = ready-of memory s (c1 .0) (c8 .0) (c10 .0);
         active = slot-active memory s (c12 .0);
         not-precommitted = c13 .0;
-        some = leb-true 1 count (and-first (leb 1 count) (leb count maxCount) in-range);
-        few = leb-true count maxCount (and-second (leb 1 count) (leb count maxCount) in-range);
-        room = ltb-false (length list) count (c16 .0);
-        enough = ltb-false (length (available memory)) count (c17 .0);
+        some = count-some count (c15 .0);
+        few = count-few count (c15 .0);
+        room = list-as-long list count (c16 .0);
+        enough = enough-available memory count (c17 .0);
+      }
+
+  pub record AllocateExtentAccepted (count near : ℕ) (list : List ℕ) : Type 0 where
+    pub ready : Ready memory s
+    pub active : isActive (slotAt memory s .state) ≡ true
+    pub not-precommitted : isPrecommitted (slotAt memory s .state) ≡ false
+    pub some : 1 ≤ count
+    pub few : count ≤ maxCount
+    pub room : count ≤ length list
+    pub near-below : near < memory .blocks
+    pub found : 1 ≤ length (extentStarts memory count)
+
+  pub allocate-extent-accepted : (count near : ℕ) (list : List ℕ) → allocateExtentError memory s count near list ≡ none → AllocateExtentAccepted count near list
+  unfolding allocateExtentError slotPrecommitted
+  allocate-extent-accepted count near list e =
+      let c1 = first-none _ e in
+      let c8 = c1 .1 in
+      let c10 = c8 .1 in
+      let c12 = c10 .1 in
+      let c13 = c12 .1 in
+      let c15 = c13 .1 in
+      let c16 = c15 .1 in
+      let c18 = c16 .1 in
+      let c22 = c18 .1 in
+      record {
+        ready = ready-of memory s (c1 .0) (c8 .0) (c10 .0);
+        active = slot-active memory s (c12 .0);
+        not-precommitted = c13 .0;
+        some = count-some count (c15 .0);
+        few = count-few count (c15 .0);
+        room = list-as-long list count (c16 .0);
+        near-below = block-below memory near (c18 .0);
+        found = extent-found memory count (c22 .0);
       }
 
   pub record DeallocateAccepted (block : ℕ) : Type 0 where
@@ -133,7 +199,7 @@ module _ (memory : Memory) (s : ℕ) where
     pub unfreed : comBit memory block ≡ true
 
   pub deallocate-accepted : (block : ℕ) → deallocateError memory s block ≡ none → DeallocateAccepted block
-  unfolding deallocateError slotPrecommitted blockOutOfRange blockFree blockFreeing
+  unfolding deallocateError slotPrecommitted blockFree blockFreeing
   deallocate-accepted block e =
       let c1 = first-none _ e in
       let c8 = c1 .1 in
@@ -148,7 +214,7 @@ module _ (memory : Memory) (s : ℕ) where
         ready = ready-of memory s (c1 .0) (c8 .0) (c10 .0);
         active = slot-active memory s (c12 .0);
         not-precommitted = c13 .0;
-        block-below = leb-false (memory .blocks) block (c18 .0);
+        block-below = block-below memory block (c18 .0);
         allocated = allocated;
         unfreed = both-set (samBit memory block) (comBit memory block) allocated (c20 .0);
       }
@@ -201,7 +267,7 @@ module _ (memory : Memory) (s : ℕ) where
     pub enough : count ≤ length (available memory)
 
   pub commit-cost-accepted : (count : ℕ) → commitCostError memory s count ≡ none → CommitCostAccepted count
-  unfolding commitCostError slotPrecommitted countTooLarge tooFewAvailable
+  unfolding commitCostError slotPrecommitted countTooLarge
   commit-cost-accepted count e =
       let c1 = first-none _ e in
       let c8 = c1 .1 in
@@ -215,7 +281,7 @@ module _ (memory : Memory) (s : ℕ) where
         active = slot-active memory s (c12 .0);
         not-precommitted = c13 .0;
         few = ltb-false maxCount count (c15 .0);
-        enough = ltb-false (length (available memory)) count (c17 .0);
+        enough = enough-available memory count (c17 .0);
       }
 
   -- and the other way round: an open slot, as precommit asks for it, and the count

@@ -4,15 +4,15 @@ use native.Mathlib.Nat.{le-min, min-le-right}
 use native.Mathlib.Omega.{arith}
 use mathlib.Core.Path.{_≡_, refl, sym, ap, _∙_}
 use mathlib.Core.Bool.{Bool, true, false, cond, false≢true}
-use mathlib.Core.Option.{Option, none, some}
+use mathlib.Core.Option.{Option}
 use mathlib.Core.List.{List}
 use lib.ListN.{length, getD}
 use lib.Seq.{length-take-le}
 use lib.Dec.{eqb}
 use borrow.Author.Tests.{eqb-false, eq-eqb, ne-eqb}
 use Rattle.bitmap.specs.Bits.{IsBitmap}
-use Rattle.model.specs.Types.{Error, SlotState, Idle, Open, Precommitted, Slot, Memory, GrantAnswer, StoresAnswer}
-use Rattle.model_types.specs.Answers.{granted, due, done}
+use Rattle.model.specs.Types.{Error, SlotState, Idle, Open, Precommitted, Slot, Memory, GrantAnswer}
+use Rattle.model_types.specs.Answers.{due, done}
 use Rattle.model_types.specs.Pending.{storesFor}
 use Rattle.model_types.specs.Memory.{slotAt, withState, isActive, isPrecommitted, volumeWords}
 use Rattle.model.specs.First.{unlessRefused}
@@ -27,6 +27,7 @@ use Rattle.model.specs.Calls.CommitCost.{commitCostError, touchedBlocks,
 use Rattle.model.specs.FourCounts.{Eligible}
 use Rattle.model.specs.CostKept.{CommitsWithin, CommitCostKept, CommitCostAnswered, CommitCostAtMost}
 use Rattle.model.proofs.Laws.Fields.{slot-same, active-there}
+use Rattle.model.proofs.Laws.Answered.{due-answered, grant-answered}
 use Rattle.model.proofs.Laws.Valid.{ValidParts, valid-parts, parts-valid}
 use Rattle.model.proofs.Laws.Accepted.{PrecommitAccepted, CommitAccepted, accepted-precommit, accepted-commit, CommitCostAccepted, commit-cost-accepted, accepted-commit-cost}
 use Rattle.model.proofs.Laws.FourCounts.{available-can-be-had}
@@ -115,18 +116,6 @@ open-state Idle e f = absurd (false≢true e)
 open-state Open e f = refl
 open-state Precommitted e f = absurd (false≢true (sym f))
 
--- an answer with so many stores is that of a call that isn't refused
-pub due-answered : (error : Option Error) (n cost : ℕ) → due error n ≡ StoresAnswer.Due cost → (error ≡ none) × (n ≡ cost)
-unfolding due
-due-answered none n cost e = (refl, cc)
-due-answered (some error) n cost e = (cc, cc)
-
--- an answer with a block is that of an allocate that isn't refused
-grant-answered : (error : Option Error) (n block : ℕ) → granted error n ≡ GrantAnswer.First block → error ≡ none
-unfolding granted
-grant-answered none n block e = refl
-grant-answered (some error) n block e = cc
-
 module _ (memory : Memory) (s count : ℕ) (is : IsBitmap (memory .sam .words)) (a : CommitCostAccepted memory s count) where
   parts : ValidParts memory
   parts = valid-parts memory (a .ready .is-valid)
@@ -189,7 +178,7 @@ module _ (memory : Memory) (s count : ℕ) (is : IsBitmap (memory .sam .words)) 
 
     within-allocated : CommitsWithin (allocateMemory memory s count list) s (commitCost memory s count)
     unfolding allocateMemory allocateAnswer unlessRefused
-    within-allocated = rw (grant-answered (allocateError memory s count list) _ _ allocates) within-taken
+    within-allocated = rw (grant-answered (allocateError memory s count list) _ _ allocates .0) within-taken
 
 pub commit-cost-kept : CommitCostKept
 unfolding commitCostAnswer

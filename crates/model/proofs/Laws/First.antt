@@ -1,9 +1,13 @@
 -- "Checked in number order": laws of the first cause that holds.
-use mathlib.Core.Path.{_≡_, refl, _∙_}
-use mathlib.Core.Bool.{Bool, true, false}
+use mathlib.Core.Path.{_≡_, refl, sym, ap, _∙_}
+use mathlib.Core.Logic.{_⊎_, inl, inr}
+use mathlib.Core.Bool.{Bool, true, false, false≢true}
 use mathlib.Core.Option.{none, some}
 use mathlib.Core.List.{List, [], _∷_, _++_}
+use lib.Dec.{eqb}
+use borrow.Author.Tests.{eq-eqb}
 use Rattle.model.specs.Types.{Error}
+use Rattle.model_types.specs.Errors.{code}
 use Rattle.model.specs.First.{Cause, first, firstOr, _⇒_}
 
 -- ---- one cause after the other
@@ -28,15 +32,6 @@ module _ (holds : Bool) (error : Error) (more : List Cause) where
       go true q = (cc, cc)
       go false q = (refl, q)
 
-  -- where the first has another error, it is that of a later cause
-  pub other-passed : (other : Error) → (error ≡ other → ⊥) → first (holds ⇒ error ∷ more) ≡ some other → first more ≡ some other
-  unfolding first firstOr
-  other-passed other differs e = go holds e
-    where
-      go : (t : Bool) → firstOr t error (first more) ≡ some other → first more ≡ some other
-      go true q = absurd (differs cc)
-      go false q = q
-
 -- with all tested, no cause holds
 pub no-cause : first [] ≡ none
 unfolding first
@@ -59,6 +54,33 @@ first-none (cause ∷ causes) p =
 pub none-first : (causes : List Cause) → NoneHold causes → first causes ≡ none
 none-first [] h = no-cause
 none-first (cause ∷ causes) h = cause-passed (cause .holds) (cause .error) causes (h .0) ∙ none-first causes (h .1)
+
+-- the first cause that holds has this error: one of another error before it doesn't hold, and one of this error holds, or a later
+-- one of it does
+abbrev HoldsAt : Bool → Cause → Type 0 → Type 0
+HoldsAt true cause later = (cause .holds ≡ true) ⊎ later
+HoldsAt false cause later = (cause .holds ≡ false) × later
+
+abbrev pub HoldsFirst : Error → List Cause → Type 0
+HoldsFirst error [] = ⊥
+HoldsFirst error (cause ∷ causes) = HoldsAt (eqb (code (cause .error)) (code error)) cause (HoldsFirst error causes)
+
+-- where the first is an error, it is so of this one
+pub first-some : (causes : List Cause) (error : Error) → first causes ≡ some error → HoldsFirst error causes
+unfolding first firstOr
+first-some [] error p = absurd (false≢true cc)
+first-some (cause ∷ causes) error p = go (cause .holds) refl (eqb (code (cause .error)) (code error)) refl (first-some causes error) p
+  where
+    go : (t : Bool) → cause .holds ≡ t → (u : Bool) → eqb (code (cause .error)) (code error) ≡ u
+        → (first causes ≡ some error → HoldsFirst error causes)
+        → firstOr t (cause .error) (first causes) ≡ some error
+        → HoldsAt u cause (HoldsFirst error causes)
+    go true e true same later q = inl e
+    go true e false other later q =
+        let same : cause .error ≡ error = cc in
+        absurd (false≢true (sym other ∙ eq-eqb (code (cause .error)) (code error) (ap code same)))
+    go false e true same later q = inr (later q)
+    go false e false other later q = (e, later q)
 
 -- ---- a list that goes on
 

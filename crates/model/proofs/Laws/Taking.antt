@@ -9,7 +9,7 @@ use lib.ListN.{length}
 use lib.Dec.{eqb}
 use borrow.Author.Tests.{eqb-true}
 use Rattle.bitmap.specs.Bits.{bit}
-use Rattle.bitmap.specs.Blocks.{member}
+use Rattle.bitmap.specs.Blocks.{isAvailable, member}
 use Rattle.bitmap.proofs.Laws.Bits.{bit-below, noBits-bitmapOf}
 use Rattle.bitmap.proofs.Laws.Blocks.{member-take, available-below, available-free, available-unused}
 use Rattle.model.specs.Types.{Nothing, Slot, Memory}
@@ -132,16 +132,21 @@ taking-state memory s blocks h =
     (withTam (slotAt memory s) (volumeBitmap memory (λ b. member b blocks || tamBit (slotAt memory s) b)))
     h)
 
+-- a block below m that tests as available is
+pub available-of : (memory : Memory) (b : ℕ) → b < memory .blocks → isAvailable (memory .sam .words) (memory .com .words) b ≡ true → Available memory b
+available-of memory b inside e =
+    record {
+      below = inside;
+      free = available-free (memory .sam .words) (memory .com .words) b e;
+      unused = available-unused (memory .sam .words) (memory .com .words) b e;
+    }
+
 -- the n lowest available blocks are such a list
 pub lowest-available : (memory : Memory) (count : ℕ) → AllAvailable memory (lowest memory count)
 unfolding lowest available
 lowest-available memory count b e =
     let p = available-below (memory .blocks) (memory .sam .words) (memory .com .words) b (member-take count b _ e) in
-    record {
-      below = p .0;
-      free = available-free (memory .sam .words) (memory .com .words) b (p .1);
-      unused = available-unused (memory .sam .words) (memory .com .words) b (p .1);
-    }
+    available-of memory b (p .0) (p .1)
 
 -- ---- deallocate
 

@@ -5,7 +5,8 @@ use mathlib.Core.Bool.{Bool, true, false, false≢true}
 use mathlib.Core.Option.{Option, none, some}
 use mathlib.Core.List.{List, [], _∷_, _++_}
 use Rattle.model_types.specs.declared.error.Error.{Error}
-use Rattle.model_types.specs.Answers.{due}
+use Rattle.model_types.specs.declared.answer.GrantAnswer.{GrantAnswer}
+use Rattle.model_types.specs.Answers.{granted, due}
 use Rattle.model.specs.First.{Cause, first, firstOr, unlessRefused, _⇒_}
 use Rattle.verdicts.specs.declared.verdict.Verdict.{Verdict}
 use Rattle.verdicts.specs.Verdicts.{verdict, errorOf, isAccepted, unlessHolds, thenCauses}
@@ -57,17 +58,42 @@ pub then-accepted : {t : Bool} {r : Verdict} (v : Verdict) (causes : List Cause)
 then-accepted Verdict.Accepted causes f g e = e
 then-accepted (Verdict.Refused error) causes f g e = absurd (false≢true (sym f ∙ g))
 
+-- an accepted call has no error
+pub accepted-none : {v : Verdict} {t : Bool} (found : Option Error) → v ≡ verdict found → t ≡ isAccepted v → t ≡ true → found ≡ none
+accepted-none none e f g = refl
+accepted-none (some error) e f g = cc
+
+-- three causes more, one after the other
+pub three-tested : (v : Verdict) (a b c : Bool) (x y z : Error)
+    → unlessHolds (unlessHolds (unlessHolds v a x) b y) c z ≡ thenCauses v (a ⇒ x ∷ b ⇒ y ∷ c ⇒ z ∷ [])
+unfolding first firstOr
+three-tested Verdict.Accepted true b c x y z = refl
+three-tested Verdict.Accepted false true c x y z = refl
+three-tested Verdict.Accepted false false true x y z = refl
+three-tested Verdict.Accepted false false false x y z = refl
+three-tested (Verdict.Refused error) a b c x y z = refl
+
+-- accepted after more causes, it was so before, and none of them holds
+pub then-passed : (v : Verdict) (causes : List Cause) → isAccepted (thenCauses v causes) ≡ true → (isAccepted v ≡ true) × (first causes ≡ none)
+then-passed Verdict.Accepted causes e = (refl, accepted-none (first causes) refl refl e)
+then-passed (Verdict.Refused error) causes e = absurd (false≢true e)
+
+-- a cause that is tested only where none held before
+pub tested-last : {t : Bool} (v : Verdict) (holds : Bool) (error : Error) → (isAccepted v ≡ true → t ≡ holds) → unlessHolds v t error ≡ unlessHolds v holds error
+tested-last Verdict.Accepted holds error e = ap (λ (u : Bool). unlessHolds Verdict.Accepted u error) (e refl)
+tested-last (Verdict.Refused earlier) holds error e = refl
+
+-- accepted with one cause more, it was so before
+pub unless-passed : {r : Verdict} (v : Verdict) (t : Bool) (error : Error) → r ≡ unlessHolds v t error → isAccepted r ≡ true → isAccepted v ≡ true
+unless-passed Verdict.Accepted t error e f = refl
+unless-passed (Verdict.Refused earlier) t error e f = sym (ap isAccepted e) ∙ f
+
 -- ---- what a call answers and leaves
 
 -- the error that a verdict stands for
 pub error-of : {v : Verdict} (found : Option Error) → v ≡ verdict found → errorOf v ≡ found
 error-of none e = ap errorOf e
 error-of (some error) e = ap errorOf e
-
--- an accepted call has no error
-pub accepted-none : {v : Verdict} {t : Bool} (found : Option Error) → v ≡ verdict found → t ≡ isAccepted v → t ≡ true → found ≡ none
-accepted-none none e f g = refl
-accepted-none (some error) e f g = cc
 
 -- the same where the verdict itself is known
 pub known-accepted : (found : Option Error) → Verdict.Accepted ≡ verdict found → found ≡ none
@@ -90,6 +116,17 @@ pub refused-leaves {ℓ} : {A : Type ℓ} {v : Verdict} {t : Bool} (found : Opti
 unfolding unlessRefused
 refused-leaves none new old e f g = absurd (false≢true (sym g ∙ f ∙ ap isAccepted e))
 refused-leaves (some error) new old e f g = refl
+
+-- accepted, the answer is the first block
+pub first-answered : (found : Option Error) (block : ℕ) → found ≡ none → GrantAnswer.First block ≡ granted found block
+unfolding granted
+first-answered found block e = rw e
+
+-- refused, no block matters
+pub none-answered : {v : Verdict} {t : Bool} (found : Option Error) (block other : ℕ) → v ≡ verdict found → t ≡ isAccepted v → t ≡ false → granted found block ≡ granted found other
+unfolding granted
+none-answered none block other e f g = absurd (false≢true (sym g ∙ f ∙ ap isAccepted e))
+none-answered (some error) block other e f g = refl
 
 -- nor does it matter how many stores it would leave due
 pub refused-stores : {v : Verdict} {t : Bool} (found : Option Error) (n other : ℕ) → v ≡ verdict found → t ≡ isAccepted v → t ≡ false → due found n ≡ due found other

@@ -1,4 +1,4 @@
--- `Error::code` gives document 01's number: each arm is a case of `code`.
+-- `Error::code` gives the papers' number: each arm is a case of `code`.
 use mathlib.Core.Path.{sym, ap}
 use Rattle.model_types.specs.Errors.{code}
 use borrow.Author.Needs.{needs}
@@ -68,6 +68,9 @@ enum-told-20 c = search needs
 enum-told-21 : tie.Need-enum-told-21
 enum-told-21 c = search needs
 
+enum-told-22 : tie.Need-enum-told-22
+enum-told-22 c = search needs
+
 returns : tie.Need-returns
 returns c = sym (ap code (c .enum-told .given .1))
 
@@ -131,6 +134,9 @@ returns-20 c = sym (ap code (c .enum-told20 .given .1))
 returns-21 : tie.Need-returns-21
 returns-21 c = sym (ap code (c .enum-told21 .given .1))
 
+returns-22 : tie.Need-returns-22
+returns-22 c = sym (ap code (c .enum-told22 .given .1))
+
 pub code-spec : {M : Type 1} → statement M
 code-spec =
     tie.close
@@ -156,6 +162,7 @@ code-spec =
     enum-told-19
     enum-told-20
     enum-told-21
+    enum-told-22
     returns
     returns-2
     returns-3
@@ -176,4 +183,5 @@ code-spec =
     returns-18
     returns-19
     returns-20
-    returns-21)
+    returns-21
+    returns-22)

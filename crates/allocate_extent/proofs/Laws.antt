@@ -1,0 +1,2 @@
+-- The laws of allocate extent.
+pub mod AllocateExtent

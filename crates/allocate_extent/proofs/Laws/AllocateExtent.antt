@@ -1,0 +1,119 @@
+-- Allocate extent: its verdict, what the search and taking the blocks need, and the first block.
+use Prim.Native.Nat.{ℕ, _+_, _≤_, _<_}
+use native.Mathlib.Nat.{add-zero}
+use native.Mathlib.Omega.{arith}
+use mathlib.Core.Path.{_≡_, refl, sym, ap, _∙_}
+use mathlib.Core.Bool.{Bool, true, false, cond, false≢true}
+use mathlib.Core.Option.{none}
+use mathlib.Core.List.{List, [], _∷_, _++_}
+use lib.ListN.{length, getD}
+use lib.Dec.{eqb}
+use borrow.Author.Tests.{eq-eqb, ne-eqb, eqb-true, eqb-false}
+use Rattle.bitmap.specs.Blocks.{member, isAvailable}
+use Rattle.bitmap.specs.Extents.{adjoining, nearest, starts}
+use Rattle.bitmap.proofs.Laws.Extents.{nearest-none, member-some}
+use Rattle.model_types.specs.declared.error.Error.the-variants.{NoExtent}
+use Rattle.model_types.specs.declared.memory.Slot.{Slot}
+use Rattle.model_types.specs.declared.memory.Memory.{Memory}
+use Rattle.model_types.specs.Memory.{slotAt}
+use Rattle.model.specs.First.{first, _⇒_}
+use Rattle.model.specs.Causes.{countOutOfRange, listShort, blockOutOfRange, extentStarts, noExtent}
+use Rattle.model.specs.Calls.Precommit.{precommitError}
+use Rattle.model.specs.Calls.AllocateExtent.{allocateExtentError, nearestExtent}
+use Rattle.model_types.proofs.Laws.Shape.{Shaped}
+use Rattle.model.proofs.Laws.First.{first-none}
+use Rattle.model.proofs.Laws.Valid.{ValidParts, valid-parts, slot-below}
+use Rattle.model.proofs.Laws.Accepted.{count-some, count-few, block-below, precommit-accepted, AllocateExtentAccepted}
+use Rattle.model.proofs.Laws.Extents.{nearestStart, nearest-extent, nearest-at, nearest-length}
+use Rattle.verdicts.specs.declared.verdict.Verdict.{Verdict}
+use Rattle.verdicts.specs.Verdicts.{verdict, isAccepted, unlessHolds, thenCauses}
+use Rattle.verdicts.proofs.Laws.Verdicts.{one-more, then-causes, then-passed, tested-last, accepted-none}
+use Rattle.available.specs.Take.{Takes}
+use Rattle.extents.specs.Take.{CanTakeExtent}
+use Rattle.allocate_extent.specs.Causes.{requestCauses, CanSearch}
+
+module _ (memory : Memory) (s count near : ℕ) (list : List ℕ) where
+  -- ---- the causes
+
+  module _ {request earlier : Verdict} (asked : request ≡ thenCauses earlier (requestCauses (memory .blocks) count near list))
+      (is-open : earlier ≡ verdict (precommitError memory s)) where
+    -- where the request is accepted, an extent can be looked for
+    pub can-search : isAccepted request ≡ true → CanSearch (memory .blocks) count near
+    unfolding countOutOfRange blockOutOfRange
+    can-search e =
+        let passed = then-passed earlier _ (sym (ap isAccepted asked) ∙ e) in
+        let open-slot = precommit-accepted memory s (accepted-none _ is-open refl (passed .0)) in
+        let c15 = first-none _ (passed .1) in
+        let c16 = c15 .1 in
+        let c18 = c16 .1 in
+        record {
+          volume = valid-parts memory (open-slot .ready .is-valid) .few-blocks;
+          some = count-some count (c15 .0);
+          few = count-few count (c15 .0);
+          inside = block-below memory near (c18 .0);
+        }
+
+    -- with 22 tested where no other cause holds
+    pub extent-verdict : {v : Verdict} {t : Bool} → v ≡ unlessHolds request t NoExtent → (isAccepted request ≡ true → t ≡ noExtent memory count)
+        → v ≡ verdict (allocateExtentError memory s count near list)
+    unfolding precommitError allocateExtentError countOutOfRange listShort blockOutOfRange
+    extent-verdict e tested =
+        e
+        ∙ tested-last request (noExtent memory count) NoExtent tested
+        ∙ ap (λ (v : Verdict). unlessHolds v (noExtent memory count) NoExtent)
+        (asked ∙ ap (λ (v : Verdict). thenCauses v (requestCauses (memory .blocks) count near list)) is-open ∙ then-causes _ _)
+        ∙ one-more _ (noExtent memory count) NoExtent
+
+  -- ---- the search
+
+  -- what is found is the start of the definition
+  pub start-is : {start : ℕ} {t : Bool}
+      → start ≡ cond t (nearest near (memory .blocks) (starts (isAvailable (memory .sam .words) (memory .com .words)) (memory .blocks) count)) (memory .blocks)
+      → t ≡ true
+      → start ≡ nearestStart memory count near
+  unfolding extentStarts
+  start-is e f = e ∙ ap (λ (u : Bool). cond u (nearestStart memory count near) (memory .blocks)) f
+
+  -- it is the number of blocks just if there is no extent
+  pub none-found : 1 ≤ count → eqb (nearestStart memory count near) (memory .blocks) ≡ noExtent memory count
+  unfolding noExtent
+  none-found some = go (eqb (length (extentStarts memory count)) 0) refl
+    where
+      go : (t : Bool) → eqb (length (extentStarts memory count)) 0 ≡ t → eqb (nearestStart memory count near) (memory .blocks) ≡ t
+      go true e =
+          eq-eqb (nearestStart memory count near) (memory .blocks)
+          (nearest-none near (memory .blocks) (extentStarts memory count)
+          (λ c m. absurd (omega (arith, eqb-true (length (extentStarts memory count)) 0 e, member-some c (extentStarts memory count) m))))
+      go false e =
+          let some-starts = eqb-false (length (extentStarts memory count)) 0 e in
+          let found : 1 ≤ length (extentStarts memory count) = omega (arith, some-starts) in
+          let extent = nearest-extent memory count near found in
+          ne-eqb (nearestStart memory count near) (memory .blocks) (λ q. omega (arith, extent .within))
+
+  -- ---- the blocks
+
+  -- what was taken is the definition's extent
+  pub took-nearest : {start : ℕ} → start ≡ nearestStart memory count near → (tam₀ «com» tam after : List ℕ)
+      → Takes (memory .blocks) count (adjoining start count) (memory .com .words) tam₀ list «com» tam after
+      → Takes (memory .blocks) count (nearestExtent memory count near) (memory .com .words) tam₀ list «com» tam after
+  unfolding nearestExtent
+  took-nearest is tam₀ «com» tam after t = rw is at t
+
+  module _ (a : AllocateExtentAccepted memory s count near list) where
+    -- the first one is the start
+    pub start-first : nearestStart memory count near ≡ getD (nearestExtent memory count near) 0 0
+    start-first = sym (nearest-at memory count near 0 (a .some) ∙ add-zero (nearestStart memory count near))
+
+    pub can-take : {start : ℕ} (own : Slot) → own ≡ slotAt memory s → start ≡ nearestStart memory count near → Shaped memory → ValidParts memory
+        → CanTakeExtent (memory .blocks) start count (memory .com .words) (own .tam .words) list
+    can-take own read is shape parts =
+        rw (read, is)
+        (record {
+          volume = parts .few-blocks;
+          isCom = shape .com;
+          isTam = shape .tam s;
+          endOfCom = parts .com-below;
+          endOfTam = slot-below memory s parts;
+          within = nearest-extent memory count near (a .found) .within;
+          room = a .room;
+        })

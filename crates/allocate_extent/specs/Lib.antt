@@ -1,0 +1,2 @@
+-- The causes that allocate extent tests before it searches.
+pub mod Causes
