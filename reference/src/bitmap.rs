@@ -52,6 +52,12 @@ impl Bitmap {
         self.words[word] & bit != 0
     }
 
+    /// Makes the block's bit 1. The block number is below 4,096.
+    pub fn set(&mut self, block: u32) {
+        let (word, bit) = Bitmap::place(block);
+        self.words[word] |= bit;
+    }
+
     /// Makes the block's bit 0. The block number is below 4,096.
     pub fn clear(&mut self, block: u32) {
         let (word, bit) = Bitmap::place(block);

@@ -1,7 +1,9 @@
-//! The allocator's calls. Each tests the causes that name it in document 01's table, or commit cost
-//! those that document 02 gives it, in number order, and a refused call changes nothing.
+//! The allocator's calls. Each tests the causes that name it in document 01's table, or those that
+//! document 02 gives commit cost and allocate extent, in number order, and a refused call changes
+//! nothing.
 
 mod allocate;
+mod allocate_extent;
 mod commit_cost;
 mod deallocate;
 mod format;
@@ -12,6 +14,7 @@ mod store;
 mod transaction;
 
 pub use allocate::{allocate, MAX_COUNT};
+pub use allocate_extent::allocate_extent;
 pub use commit_cost::commit_cost;
 pub use deallocate::deallocate;
 pub use format::format;

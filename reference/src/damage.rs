@@ -4,16 +4,17 @@
 
 mod aims;
 mod arguments;
+mod beside;
 mod costs;
 mod counts;
 mod disk_damage;
+mod extents;
 mod log_damage;
 mod malformed;
 mod memory_damage;
 mod mending;
 mod other_memory;
 mod pending_damage;
-mod repair;
 mod scenes;
 mod text;
 mod volumes;
@@ -28,17 +29,18 @@ use crate::memory::Pending;
 use crate::random::Random;
 use crate::test_line::TestLine;
 use aims::{Aim, Call};
+use beside::Made;
 use mending::is_sound;
 use std::collections::VecDeque;
 
 const NEW_VOLUME_IN: u32 = 80;
-const WIDE_WORK_IN: u32 = 600;
+const WIDE_WORK_IN: u32 = 800;
 const MALFORMED_IN: u32 = 25;
 const STEPS_IN: u32 = 4;
 const MOST_STEPS: u32 = 4;
 /// One in this many steps of pending work isn't a store.
-const INTERRUPTED_IN: u32 = 8;
-const STRAYS_IN: u32 = 4;
+const INTERRUPTED_IN: u32 = 10;
+const STRAYS_IN: u32 = 6;
 const MOST_STRAYS: u32 = 3;
 const SHORT_LIST_IN: u32 = 4;
 const SHOW_AFTER_STEP_IN: u32 = 10;
@@ -46,11 +48,11 @@ const UNSHOWN_CALL_IN: u32 = 3;
 const SHOW_STRAY_IN: u32 = 3;
 const SHOW_DAMAGE_IN: u32 = 10;
 const STATUS_AFTER_CALL_IN: u32 = 6;
-const STATUS_OF_DAMAGE_IN: u32 = 5;
+const STATUS_OF_DAMAGE_IN: u32 = 4;
 const COST_AFTER_CALL_IN: u32 = 12;
-const COST_OF_SCENE_IN: u32 = 3;
+const EXTENT_AFTER_CALL_IN: u32 = 16;
 /// One in this many calls of status is a test line, the others are bench lines.
-const STATUS_LINE_IN: u32 = 4;
+const STATUS_LINE_IN: u32 = 6;
 
 /// An endless sequence.
 pub struct Damage {
@@ -115,6 +117,7 @@ impl Damage {
             self.show_one_in(SHOW_AFTER_STEP_IN);
             self.status_one_in(STATUS_AFTER_CALL_IN);
             self.cost_one_in(COST_AFTER_CALL_IN);
+            self.extent_one_in(EXTENT_AFTER_CALL_IN);
         }
     }
 
@@ -126,15 +129,19 @@ impl Damage {
         };
         self.show_one_in(SHOW_DAMAGE_IN);
         self.status_one_in(STATUS_OF_DAMAGE_IN);
-        if aim.is_of_a_transaction() && self.random.one_in(COST_OF_SCENE_IN) {
-            self.cost_beside(aim.call, slot, number);
-        }
         let error = match aim.call {
             Call::Bench(operation) => self.call(operation, slot, number),
             Call::Cost => self.cost(slot, number),
+            Call::Extent => {
+                let near = self.near_for(aim.error, number);
+                self.extent(slot, number, near)
+            }
         };
         if error == aim.error {
             self.strike_off(aim);
+        }
+        if aim.is_of_a_transaction() {
+            self.call_beside(Made { call: aim.call, slot, number, error });
         }
         self.show_mostly();
         self.status_one_in(STATUS_AFTER_CALL_IN);
@@ -152,6 +159,7 @@ impl Damage {
             self.show_one_in(SHOW_STRAY_IN);
             self.status_one_in(STATUS_AFTER_CALL_IN);
             self.cost_one_in(COST_AFTER_CALL_IN);
+            self.extent_one_in(EXTENT_AFTER_CALL_IN);
         }
     }
 

@@ -1,6 +1,6 @@
-//! The errors, one for each cause of refusal in document 01's table.
+//! The errors, one for each cause of refusal in document 01's table, which document 02's causes join.
 
-/// A cause of refusal. Its code is document 01's number.
+/// A cause of refusal. Its code is the documents' number.
 #[derive(Clone, Copy, PartialEq, Eq, PartialOrd, Ord, Debug)]
 #[repr(u32)]
 pub enum Error {
@@ -46,6 +46,8 @@ pub enum Error {
     BlockAlreadyFreed = 20,
     /// The bench line isn't in form.
     MalformedLine = 21,
+    /// There aren't as many adjoining available blocks as the count.
+    NoExtent = 22,
 }
 
 impl Error {

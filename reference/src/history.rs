@@ -2,6 +2,7 @@
 //! so that it reaches deep ones.
 
 mod choice;
+mod extents;
 pub(crate) mod malformed;
 pub(crate) mod text;
 mod with_cost;
@@ -28,6 +29,8 @@ pub struct Shape {
     /// Whether the volume may be formatted anew. The bench keeps its memory then, and this is the
     /// one way for a bench line to reach cause 6. Demand 3 is premised on no such format.
     pub reformats: bool,
+    /// Whether extent lines, for `inspect`, stand among the bench lines.
+    pub extents: bool,
 }
 
 /// What the transactions do for a while.
@@ -62,7 +65,8 @@ impl History {
 
     /// A history that goes on from states that others bring about.
     pub(crate) fn to_be_resumed(seed: u64) -> History {
-        History::from_start(seed, Shape { blocks: 0, malformed: false, reformats: false })
+        let shape = Shape { blocks: 0, malformed: false, reformats: false, extents: false };
+        History::from_start(seed, shape)
     }
 
     fn from_start(seed: u64, shape: Shape) -> History {
@@ -113,6 +117,9 @@ impl Iterator for History {
     type Item = Vec<u8>;
 
     fn next(&mut self) -> Option<Vec<u8>> {
+        if let Some(extent) = self.next_extent() {
+            return Some(extent);
+        }
         let line = self.choose();
         let malformed = self.shape.malformed && self.formatted && self.random.one_in(MALFORMED_IN);
         let bytes = if malformed {

@@ -1,6 +1,6 @@
 //! The inspector: what its calls are lent, and what each bench line and test line does to it.
 
-use crate::calls::{commit_cost, open, status, MAX_COUNT};
+use crate::calls::{allocate_extent, commit_cost, open, status, MAX_COUNT};
 use crate::codes::{pending_of, slot_state_of};
 use crate::disk::DISK_WORDS;
 use crate::error::Error;
@@ -19,7 +19,7 @@ pub struct Inspector {
     pub memory: Memory,
     pub disk: Vec<u32>,
     pub list: [u32; LIST_PLACES],
-    /// How many places of the list are lent to an allocate, from the first on.
+    /// How many places of the list are lent to a call, from the first on.
     pub places: usize,
 }
 
@@ -41,7 +41,7 @@ impl Inspector {
         }
         let line = test_line::parse(line).ok_or(Error::MalformedLine)?;
         self.alter(&line).ok_or(Error::MalformedLine)?;
-        self.report(&line, more)
+        self.answer(&line, more)
     }
 
     /// Makes the call that a bench line in form asks for. The memory that an open gives takes the
@@ -76,13 +76,15 @@ impl Inspector {
             }
             TestLine::Pending { codes } => memory.pending = pending_of(codes)?,
             TestLine::List { places } => self.places = at_most(places, LIST_PLACES)?,
-            TestLine::Show | TestLine::Status | TestLine::Cost { .. } => {}
+            TestLine::Show | TestLine::Status | TestLine::Cost { .. } | TestLine::Extent { .. } => {
+            }
         }
         Some(())
     }
 
-    /// Prints what the test line asks to be told, if anything, and gives its value.
-    fn report(&self, line: &TestLine, more: &mut String) -> Result<u32, Error> {
+    /// Makes the call that the test line asks for, if any, prints what it is to be told, and gives
+    /// its value.
+    fn answer(&mut self, line: &TestLine, more: &mut String) -> Result<u32, Error> {
         match *line {
             TestLine::Show => {
                 more.push_str(&self.to_string());
@@ -94,6 +96,10 @@ impl Inspector {
                 Ok(status.allocated)
             }
             TestLine::Cost { slot, count } => commit_cost(&self.memory, slot, count),
+            TestLine::Extent { slot, count, near } => {
+                let list = &mut self.list[..self.places];
+                allocate_extent(&mut self.memory, slot, count, near, list)
+            }
             _ => Ok(0),
         }
     }

@@ -13,6 +13,13 @@ pub struct Call<'a> {
     pub listed: &'a [u32],
 }
 
+impl<'a> Call<'a> {
+    /// An extent is entered as an allocate of the numbers that it lists (document 02, job 4).
+    pub fn extent(slot: u32, accepted: bool, listed: &'a [u32]) -> Call<'a> {
+        Call { operation: Operation::Allocate, slot, block: 0, accepted, listed }
+    }
+}
+
 /// A commit whose stores are being counted up to its commit point.
 struct CommitUnderCount {
     slot: usize,

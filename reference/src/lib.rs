@@ -1,4 +1,4 @@
-//! A second block allocator, written from document 01 and from jobs 1 and 2 of document 02 alone,
+//! A second block allocator, written from document 01 and from jobs 1, 2 and 4 of document 02 alone,
 //! against which another one is compared.
 
 mod agreement;
@@ -13,6 +13,8 @@ mod lent;
 mod log;
 mod memory;
 mod random;
+mod ranges;
+mod repair;
 mod show;
 mod status_line;
 mod store_list;
@@ -20,6 +22,7 @@ mod validity;
 
 pub mod bench;
 pub mod damage;
+pub mod extents;
 pub mod history;
 pub mod inspector;
 pub mod line;
@@ -31,8 +34,8 @@ pub mod test_line;
 pub use bitmap::{majority, Bitmap};
 pub use block_set::BlockSet;
 pub use calls::{
-    allocate, commit, commit_cost, deallocate, format, open, precommit, rollback, start, status,
-    store, Opened, Status, MAX_COUNT,
+    allocate, allocate_extent, commit, commit_cost, deallocate, format, open, precommit, rollback,
+    start, status, store, Opened, Status, MAX_COUNT,
 };
 pub use disk::{BITMAP_START, BLOCKS_POSITION, DISK_WORDS, LOG_LENGTH_POSITION, LOG_START};
 pub use error::Error;

@@ -1,6 +1,7 @@
 //! The program `reference`: the bench and the test programs, and the makers of their inputs.
 
 use reference::damage::Damage;
+use reference::extents::Extents;
 use reference::history::{with_cost, with_status, History, Shape};
 use reference::{program, sweep};
 use std::io::{self, BufWriter, ErrorKind, Write};
@@ -10,12 +11,13 @@ use std::str::FromStr;
 const USAGE: &str = "usage: reference bench
        reference inspect
        reference sweep
-       reference history SEED LINES BLOCKS [--malformed] [--status] [--cost]
+       reference history SEED LINES BLOCKS [--malformed] [--status] [--cost] [--extent]
        reference damage SEED LINES
+       reference extents SEED LINES
 BLOCKS is 1 to 4096, or 0 for a random number
-with --status and with --cost there are further lines, for inspect";
+with --status, --cost and --extent there are further lines, for inspect";
 
-const HISTORY_OPTIONS: [&str; 3] = ["--malformed", "--status", "--cost"];
+const HISTORY_OPTIONS: [&str; 4] = ["--malformed", "--status", "--cost", "--extent"];
 
 fn main() -> ExitCode {
     let arguments: Vec<String> = std::env::args().skip(1).collect();
@@ -28,6 +30,7 @@ fn main() -> ExitCode {
             print_history(seed, lines, blocks, options)
         }
         ["damage", seed, lines] => print_damage(seed, lines),
+        ["extents", seed, lines] => print_extents(seed, lines),
         _ => Err(usage_error()),
     };
     match result {
@@ -41,9 +44,9 @@ fn main() -> ExitCode {
 }
 
 fn print_history(seed: &str, lines: &str, blocks: &str, options: &[&str]) -> io::Result<()> {
-    let [malformed, status, cost] = history_options(options)?;
+    let [malformed, status, cost, extents] = history_options(options)?;
     let seed = number(seed)?;
-    let shape = Shape { blocks: number(blocks)?, malformed, reformats: true };
+    let shape = Shape { blocks: number(blocks)?, malformed, reformats: true, extents };
     let history = History::new(seed, shape).ok_or_else(usage_error)?.take(number(lines)?);
     let mut lines: Box<dyn Iterator<Item = Vec<u8>>> = Box::new(history);
     if status {
@@ -56,7 +59,7 @@ fn print_history(seed: &str, lines: &str, blocks: &str, options: &[&str]) -> io:
 }
 
 /// Which of a history's options are given. They stand in any order, none twice.
-fn history_options(options: &[&str]) -> io::Result<[bool; 3]> {
+fn history_options(options: &[&str]) -> io::Result<[bool; 4]> {
     let given = HISTORY_OPTIONS.map(|option| options.contains(&option));
     let known = given.iter().filter(|is_given| **is_given).count();
     if known == options.len() {
@@ -68,6 +71,10 @@ fn history_options(options: &[&str]) -> io::Result<[bool; 3]> {
 
 fn print_damage(seed: &str, lines: &str) -> io::Result<()> {
     print_lines(Damage::new(number(seed)?).take(number(lines)?))
+}
+
+fn print_extents(seed: &str, lines: &str) -> io::Result<()> {
+    print_lines(Extents::new(number(seed)?).take(number(lines)?))
 }
 
 fn print_lines(lines: impl Iterator<Item = Vec<u8>>) -> io::Result<()> {

@@ -61,6 +61,11 @@ impl Memory {
         !used & Bitmap::volume_bits(self.blocks, word)
     }
 
+    /// Whether this block, which is below 4,096, has SAM 0 and COM 0. It isn't compared with m.
+    pub fn is_available(&self, block: u32) -> bool {
+        !self.sam.has(block) && !self.com.has(block)
+    }
+
     /// The number of available blocks. Any words and numbers may stand in the memory.
     pub fn available(&self) -> u32 {
         (0..Bitmap::WORDS).map(|word| self.available_in(word).count_ones()).sum()

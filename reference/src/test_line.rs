@@ -15,6 +15,7 @@ pub enum TestLine {
     Pending { codes: [u32; 4] },
     List { places: u32 },
     Cost { slot: u32, count: u32 },
+    Extent { slot: u32, count: u32, near: u32 },
     Show,
     Status,
 }
@@ -33,6 +34,7 @@ impl TestLine {
             TestLine::Pending { codes } => ("pending", codes.to_vec()),
             TestLine::List { places } => ("list", vec![places]),
             TestLine::Cost { slot, count } => ("cost", vec![slot, count]),
+            TestLine::Extent { slot, count, near } => ("extent", vec![slot, count, near]),
             TestLine::Show => ("show", Vec::new()),
             TestLine::Status => ("status", Vec::new()),
         }
@@ -58,6 +60,7 @@ pub fn parse(line: &[u8]) -> Option<TestLine> {
         }
         (b"list", &[places]) => Some(TestLine::List { places }),
         (b"cost", &[slot, count]) => Some(TestLine::Cost { slot, count }),
+        (b"extent", &[slot, count, near]) => Some(TestLine::Extent { slot, count, near }),
         (b"show", &[]) => Some(TestLine::Show),
         (b"status", &[]) => Some(TestLine::Status),
         _ => None,

@@ -11,12 +11,23 @@ pub const MAX_COUNT: u32 = 64;
 /// Allocates the `count` lowest available blocks. Their numbers go to the first places of the
 /// list, rising; later places stay.
 pub fn allocate(memory: &mut Memory, slot: u32, count: u32, list: &mut [u32]) -> Result<(), Error> {
-    let index = open_slot(memory, slot)?;
-    require((1..=MAX_COUNT).contains(&count), Error::Count)?;
-    require(list.len() >= count as usize, Error::ListLength)?;
+    let index = slot_to_list(memory, slot, count, list)?;
     require(available_blocks(memory) >= count, Error::TooFewAvailable)?;
     grant(memory, index, &mut list[..count as usize]);
     Ok(())
+}
+
+/// The causes before 17, which the allocation of an extent has too. It gives the slot's index.
+pub(super) fn slot_to_list(
+    memory: &Memory,
+    slot: u32,
+    count: u32,
+    list: &[u32],
+) -> Result<usize, Error> {
+    let index = open_slot(memory, slot)?;
+    require((1..=MAX_COUNT).contains(&count), Error::Count)?;
+    require(list.len() >= count as usize, Error::ListLength)?;
+    Ok(index)
 }
 
 /// The blocks with SAM 0 and COM 0 of a valid memory, whose bitmaps have no bit from m on.

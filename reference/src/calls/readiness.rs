@@ -1,5 +1,5 @@
-//! The causes that the six transaction calls share, commit cost with them. Each check gives the
-//! slot's index.
+//! The causes that the six transaction calls share, commit cost and allocate extent with them. Each
+//! check gives the slot's index.
 
 use crate::error::{require, Error};
 use crate::memory::{Memory, Pending, SlotState};

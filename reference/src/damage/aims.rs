@@ -1,5 +1,6 @@
 //! What is aimed at: each cause for each call that document 01's table names with it or that
-//! document 02 gives it, and calls of transactions, statuses and commit costs that are accepted.
+//! document 02 gives it, and calls of transactions, statuses, commit costs and extents that are
+//! accepted.
 
 use super::Damage;
 use crate::error::Error;
@@ -12,11 +13,12 @@ pub struct Aim {
     pub call: Call,
 }
 
-/// A call that a bench line makes, or commit cost, which has a test line alone.
+/// A call that a bench line makes, or one that has a test line alone.
 #[derive(Clone, Copy, PartialEq, Eq, Debug)]
 pub enum Call {
     Bench(Operation),
     Cost,
+    Extent,
 }
 
 /// The six transaction calls. The last five are all but start.
@@ -59,17 +61,31 @@ const CAUSES: [(Error, &[Operation], usize); 22] = [
 ];
 
 /// The causes of commit cost, allocate's but for the list's length, and how often each is to be
-/// reached in a round. Those that all six have are also met beside their calls.
+/// reached in a round. Most are met beside calls of the six.
 const COST_CAUSES: [(Error, usize); 7] = [
-    (Error::InvalidMemory, 1),
-    (Error::WorkPending, 1),
-    (Error::SlotNumber, 1),
-    (Error::SlotIdle, 1),
+    (Error::InvalidMemory, 2),
+    (Error::WorkPending, 2),
+    (Error::SlotNumber, 2),
+    (Error::SlotIdle, 2),
     (Error::SlotPrecommitted, 2),
     (Error::Count, 2),
     (Error::TooFewAvailable, 2),
 ];
 const ACCEPTED_COSTS: usize = 2;
+
+/// The causes of allocate extent, in the same way.
+const EXTENT_CAUSES: [(Error, usize); 9] = [
+    (Error::InvalidMemory, 1),
+    (Error::WorkPending, 1),
+    (Error::SlotNumber, 1),
+    (Error::SlotIdle, 1),
+    (Error::SlotPrecommitted, 1),
+    (Error::Count, 1),
+    (Error::ListLength, 1),
+    (Error::BlockNumber, 1),
+    (Error::NoExtent, 2),
+];
+const ACCEPTED_EXTENTS: usize = 3;
 
 impl Aim {
     /// The aims of one round.
@@ -79,10 +95,8 @@ impl Aim {
         for (error, operations, times) in CAUSES {
             aims.extend(aims_of(Some(error), operations, times));
         }
-        aims.extend(vec![Aim { error: None, call: Call::Cost }; ACCEPTED_COSTS]);
-        for (error, times) in COST_CAUSES {
-            aims.extend(vec![Aim { error: Some(error), call: Call::Cost }; times]);
-        }
+        aims.extend(aims_at(Call::Cost, ACCEPTED_COSTS, &COST_CAUSES));
+        aims.extend(aims_at(Call::Extent, ACCEPTED_EXTENTS, &EXTENT_CAUSES));
         aims
     }
 
@@ -91,13 +105,22 @@ impl Aim {
         matches!(self.error, Some(Error::WorkPending | Error::DiskMismatch))
     }
 
-    /// Whether the call is one of the six or commit cost, which don't look at the disk.
+    /// Whether the call is one of the six, commit cost or an extent, which don't look at the disk.
     pub fn is_of_a_transaction(&self) -> bool {
         match self.call {
             Call::Bench(operation) => SIX.contains(&operation),
-            Call::Cost => true,
+            Call::Cost | Call::Extent => true,
         }
     }
+}
+
+/// This call, accepted so many times and refused for each of its causes as often as is said.
+fn aims_at(call: Call, accepted: usize, causes: &[(Error, usize)]) -> Vec<Aim> {
+    let mut aims = vec![Aim { error: None, call }; accepted];
+    for (error, times) in causes {
+        aims.extend(vec![Aim { error: Some(*error), call }; *times]);
+    }
+    aims
 }
 
 /// These operations, each this many times.
@@ -116,11 +139,36 @@ impl Damage {
         let in_work = self.stores_left() > 0;
         let fits = |aim: &Aim| aim.needs_work() == in_work;
         let fitting: Vec<Aim> = self.aims.iter().copied().filter(fits).collect();
-        if !fitting.is_empty() && self.random.one_in(2) {
+        let aim = if !fitting.is_empty() && self.random.one_in(2) {
             self.random.choose(&fitting)
         } else {
             self.random.choose(&self.aims)
-        }
+        };
+        self.with_company(aim)
+    }
+
+    /// A commit cost or an extent is made beside one of the six that is to be refused with the same
+    /// error, if there still is one, for that takes fewer lines.
+    fn with_company(&self, aim: Aim) -> Aim {
+        let company = match aim.call {
+            Call::Cost | Call::Extent if aim.error.is_some() => {
+                self.lacking_one_of_the_six(aim.error)
+            }
+            _ => None,
+        };
+        company.map_or(aim, |operation| Aim { call: Call::Bench(operation), ..aim })
+    }
+
+    /// One of the six that is still to be refused with this error.
+    pub(super) fn lacking_one_of_the_six(&self, error: Option<Error>) -> Option<Operation> {
+        let lacks =
+            |operation: &Operation| self.lacks(Aim { error, call: Call::Bench(*operation) });
+        SIX.into_iter().find(lacks)
+    }
+
+    /// Whether an aim is still to be reached in this round.
+    pub(super) fn lacks(&self, aim: Aim) -> bool {
+        self.aims.contains(&aim)
     }
 
     /// Takes out an aim that was reached, if it was still to be.

@@ -6,6 +6,8 @@ use crate::line::Operation;
 use crate::memory::Memory;
 
 const WRONG_SLOTS: [u32; 6] = [8, 9, 16, 256, 65_536, 99_999];
+/// The same for test lines, whose numbers may be larger.
+const LARGE_WRONG_SLOTS: [u32; 6] = [8, 9, 15, 256, 65_536, u32::MAX];
 const WRONG_COUNTS: [u32; 7] = [0, 65, 66, 128, 4096, 65_537, 99_999];
 const EDGE_COUNTS: [u32; 6] = [1, 2, 31, 32, 63, 64];
 const WRONG_BLOCK_COUNTS: [u32; 5] = [0, 4097, 4128, 65_537, 99_999];
@@ -53,6 +55,10 @@ impl Damage {
 
     pub(super) fn wrong_slot(&mut self) -> u32 {
         self.random.choose(&WRONG_SLOTS)
+    }
+
+    pub(super) fn large_wrong_slot(&mut self) -> u32 {
+        self.random.choose(&LARGE_WRONG_SLOTS)
     }
 
     pub(super) fn wrong_count(&mut self) -> u32 {

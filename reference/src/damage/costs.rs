@@ -1,6 +1,5 @@
 //! Commit costs: the ways to their causes, which are mostly allocate's ways, and accepted ones.
 
-use super::aims::{Aim, Call};
 use super::Damage;
 use crate::bitmap::Bitmap;
 use crate::calls::MAX_COUNT;
@@ -9,7 +8,6 @@ use crate::line::Operation;
 use crate::memory::SlotState;
 use crate::test_line::TestLine;
 
-const WRONG_SLOTS: [u32; 6] = [8, 9, 15, 256, 65_536, u32::MAX];
 const WRONG_COUNTS: [u32; 9] = [65, 65, 66, 128, 256, 4096, 65_536, 1 << 31, u32::MAX];
 const EDGE_COUNTS: [u32; 6] = [0, 0, 1, 32, 63, 64];
 const SHORT_LIST_IN: u32 = 4;
@@ -22,11 +20,9 @@ impl Damage {
             None => self.prepare_accepted_cost(),
             Some(Error::SlotNumber) => {
                 self.come_to_rest()?;
-                Some((self.random.choose(&WRONG_SLOTS), self.any_cost_count()))
+                Some((self.large_wrong_slot(), self.any_cost_count()))
             }
-            Some(Error::Count) => {
-                Some((self.slot_in(SlotState::Open)?, self.random.choose(&WRONG_COUNTS)))
-            }
+            Some(Error::Count) => Some((self.slot_in(SlotState::Open)?, self.wrong_cost_count())),
             Some(error @ Error::TooFewAvailable) => {
                 self.prepare_refusal(error, Operation::Allocate)
             }
@@ -74,27 +70,19 @@ impl Damage {
         }
     }
 
-    /// A commit cost beside a call that is aimed at. If it is refused, its own aim at the error is
-    /// reached.
-    pub(super) fn cost_beside(&mut self, call: Call, slot: u32, number: u32) {
-        let count = match call {
-            Call::Bench(Operation::Allocate) => number,
-            _ => self.any_cost_count(),
-        };
-        if let Some(error) = self.cost(slot, count) {
-            self.strike_off(Aim { error: Some(error), call: Call::Cost });
-        }
-    }
-
     pub(super) fn cost(&mut self, slot: u32, count: u32) -> Option<Error> {
         self.put_test_line(&TestLine::Cost { slot, count })
     }
 
+    pub(super) fn wrong_cost_count(&mut self) -> u32 {
+        self.random.choose(&WRONG_COUNTS)
+    }
+
     /// A count for a commit cost that may be refused for any reason.
-    fn any_cost_count(&mut self) -> u32 {
+    pub(super) fn any_cost_count(&mut self) -> u32 {
         let available = self.available();
         match self.random.below(8) {
-            0 => self.random.choose(&WRONG_COUNTS),
+            0 => self.wrong_cost_count(),
             1 => available.saturating_sub(1),
             2 => available,
             3 => available + 1,

@@ -7,6 +7,7 @@ use crate::test_line::TestLine;
 
 /// The most allocates that leave few blocks available.
 const MOST_ALLOCATES: u32 = 3;
+const GIVE_UP_IN: u32 = 4;
 
 impl Damage {
     /// A count for which there are blocks and places, if there are any.
@@ -30,10 +31,10 @@ impl Damage {
     }
 
     /// Makes the list long enough and gives a count with too few blocks available, or now and then
-    /// just enough. It is nothing if too many are available.
+    /// just enough. It is nothing if too many are available; then there may be another volume.
     pub(super) fn leave_few_available(&mut self, slot: u32) -> Option<u32> {
         if self.available() >= (MOST_ALLOCATES + 1) * MAX_COUNT {
-            return None;
+            return self.give_up_volume();
         }
         self.lengthen_list();
         for _ in 0..MOST_ALLOCATES {
@@ -41,13 +42,25 @@ impl Damage {
                 self.call(Operation::Allocate, slot, MAX_COUNT);
             }
         }
-        let available = self.available();
-        let beyond = MAX_COUNT.checked_sub(available).filter(|beyond| *beyond > 0)?;
+        self.count_beyond(self.available())
+    }
+
+    /// Now and then makes another volume, for this one has too many blocks for what is wanted.
+    pub(super) fn give_up_volume<T>(&mut self) -> Option<T> {
+        if self.random.one_in(GIVE_UP_IN) {
+            self.make_volume();
+        }
+        None
+    }
+
+    /// A count above the most that can be had, or now and then just that, if there is one.
+    pub(super) fn count_beyond(&mut self, most: u32) -> Option<u32> {
+        let beyond = MAX_COUNT.checked_sub(most).filter(|beyond| *beyond > 0)?;
         match self.random.below(6) {
-            0 => Some(available.max(1)),
+            0 => Some(most.max(1)),
             1 => Some(MAX_COUNT),
-            2 | 3 => Some(available + 1),
-            _ => Some(available + 1 + self.random.below(beyond)),
+            2 | 3 => Some(most + 1),
+            _ => Some(most + 1 + self.random.below(beyond)),
         }
     }
 

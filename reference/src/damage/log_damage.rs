@@ -33,12 +33,20 @@ const FAULTS: [Fault; 8] = [
 ];
 
 impl Damage {
+    /// One of the faults that a log of this disk can have: a volume of one word has no place for two
+    /// numbers, and one that ends with a word none for a bit from m on.
     pub(super) fn any_fault(&mut self) -> Fault {
-        self.random.choose(&FAULTS)
+        let blocks = self.state.disk[BLOCKS_POSITION];
+        let can_be = |fault: &Fault| match fault {
+            Fault::NumbersEqual | Fault::NumbersFalling => Bitmap::words_for(blocks) > 1,
+            Fault::BitFromM => blocks < blocks.next_multiple_of(Bitmap::WORD_BITS),
+            _ => true,
+        };
+        let faults: Vec<Fault> = FAULTS.into_iter().filter(can_be).collect();
+        self.random.choose(&faults)
     }
 
-    /// Writes a log to a disk that could be opened. A volume of one word has no place for two
-    /// numbers, and one that ends with a word none for a bit from m on: there the log is sound.
+    /// Writes a log to a disk that could be opened.
     pub(super) fn write_log(&mut self, fault: Fault) {
         let blocks = self.state.disk[BLOCKS_POSITION];
         let words = Bitmap::words_for(blocks);

@@ -9,7 +9,7 @@ use crate::line::Line;
 use crate::test_line::TestLine;
 
 const MOST_LINES: u32 = 3;
-const WRONG_LINES: [&str; 36] = [
+const WRONG_LINES: [&str; 49] = [
     "show ",
     " show",
     "show 0",
@@ -34,6 +34,19 @@ const WRONG_LINES: [&str; 36] = [
     "cost 0 00000000001",
     "cost 0 4294967296",
     "op=cost seat=0 n=1",
+    "extent",
+    "extent 0 1",
+    "extent 0 1 ",
+    "extent 0 1 2 ",
+    " extent 0 1 2",
+    "extent  0 1 2",
+    "extent 0 1  2",
+    "extent 0 1 2 3",
+    "Extent 0 1 2",
+    "extents 0 1 2",
+    "extent 0 1 00000000002",
+    "extent 0 1 4294967296",
+    "op=extent seat=0 n=1",
     "disk 2",
     "disk 2 4294967296",
     "disk 00000000002 5",
@@ -99,6 +112,7 @@ impl Damage {
             TestLine::State { slot, code: 1 },
             TestLine::Pending { codes: [1, slot, 0, index] },
             TestLine::Cost { slot, count: index },
+            TestLine::Extent { slot, count: 1, near: index },
         ]);
         let bytes = text::bytes(&mut self.random, &line);
         let random = &mut self.random;

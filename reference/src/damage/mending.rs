@@ -1,12 +1,12 @@
 //! The way back to a sound state.
 
-use super::repair::{disk_lines, memory_lines};
 use super::Damage;
 use crate::calls::{open, store};
 use crate::error::Error;
 use crate::inspector::Inspector;
 use crate::line::Operation;
 use crate::memory::Memory;
+use crate::repair::{disk_lines, memory_lines};
 use crate::test_line::TestLine;
 
 /// More differences than these aren't mended word by word.

@@ -2,16 +2,17 @@
 
 use super::Damage;
 use crate::bitmap::Bitmap;
-use crate::memory::{Memory, SlotState};
+use crate::memory::SlotState;
 use crate::test_line::TestLine;
 
-const MOST_SLOTS: u32 = 4;
+const MOST_SLOTS: u32 = 3;
 const MOST_TOUCHES: u32 = 2;
-const MOST_CHANGES: u32 = 3;
+const MOST_CHANGES: u32 = 2;
 /// A volume with fewer blocks can't have one of each of the four kinds that status counts.
 const LEAST_BLOCKS: u32 = 4;
 const STATUS_IN: u32 = 2;
 const COST_IN: u32 = 3;
+const EXTENT_IN: u32 = 4;
 
 impl Damage {
     /// Some transactions touch blocks. Then the memory is changed so that it stays valid, though
@@ -20,20 +21,26 @@ impl Damage {
         self.come_to_rest()?;
         self.touch_in_some_slots();
         self.status_one_in(STATUS_IN);
-        for _ in 0..self.random.below(MOST_CHANGES + 1) {
-            match self.random.below(4) {
-                _ if self.state.memory.blocks < LEAST_BLOCKS => self.move_the_end(),
-                0 => {
-                    let block = self.volume_block();
-                    self.flip_everywhere(block);
-                }
-                1 => self.move_the_end(),
-                _ => self.replace_a_word_everywhere(),
-            }
+        for _ in 0..=self.random.below(MOST_CHANGES) {
+            self.change_validly();
             self.alter(TestLine::Status);
             self.cost_one_in(COST_IN);
+            self.extent_one_in(EXTENT_IN);
         }
         Some(())
+    }
+
+    /// Changes the memory so that it stays valid.
+    pub(super) fn change_validly(&mut self) {
+        match self.random.below(4) {
+            _ if self.state.memory.blocks < LEAST_BLOCKS => self.move_the_end(),
+            0 => {
+                let block = self.volume_block();
+                self.flip_everywhere(block);
+            }
+            1 => self.move_the_end(),
+            _ => self.replace_a_word_everywhere(),
+        }
     }
 
     fn touch_in_some_slots(&mut self) {
@@ -48,13 +55,22 @@ impl Damage {
 
     /// Another block count with which no bitmap has a bit too many.
     fn move_the_end(&mut self) {
-        let Memory { blocks, sam, com, .. } = &self.state.memory;
-        let has_either = |block: &u32| sam.has(*block) || com.has(*block);
-        let least = (0..*blocks).rev().find(has_either).map_or(1, |last| last + 1);
+        let least = self.least_blocks();
         let any = least + self.random.below(Bitmap::MAX_BLOCKS + 1 - least);
         let edge = least.next_multiple_of(Bitmap::WORD_BITS);
         let blocks = self.random.choose(&[least, edge, any, Bitmap::MAX_BLOCKS]);
         self.alter(TestLine::Blocks { blocks });
+    }
+
+    /// As few blocks as there can be, for fewer available ones.
+    pub(super) fn cut_off_the_end(&mut self) {
+        let blocks = self.least_blocks();
+        self.alter(TestLine::Blocks { blocks });
+    }
+
+    fn least_blocks(&self) -> u32 {
+        let memory = &self.state.memory;
+        (0..memory.blocks).rev().find(|b| !memory.is_available(*b)).map_or(1, |last| last + 1)
     }
 
     /// Another word in SAM, of which each active slot has touched some blocks and none another's.

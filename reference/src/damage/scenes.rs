@@ -8,7 +8,7 @@ use crate::memory::{Memory, SlotState};
 
 const CRASH_IN: u32 = 10;
 const FOREIGN_DISK_IN: u32 = 6;
-const MISMATCH_AT_REST_IN: u32 = 4;
+const MISMATCH_AT_REST_IN: u32 = 3;
 
 impl Damage {
     /// Brings it about, from a sound state, and gives the call's slot and number. It is nothing if
@@ -16,6 +16,7 @@ impl Damage {
     pub(super) fn prepare(&mut self, aim: Aim) -> Option<(u32, u32)> {
         let arguments = match (aim.call, aim.error) {
             (Call::Cost, error) => self.prepare_cost(error)?,
+            (Call::Extent, error) => self.prepare_extent(error)?,
             (Call::Bench(operation), None) => self.prepare_acceptance(operation)?,
             (Call::Bench(operation), Some(error)) => self.prepare_refusal(error, operation)?,
         };

@@ -7,7 +7,7 @@ use crate::disk::LOG_LENGTH_POSITION;
 use crate::line::Operation;
 use crate::memory::SlotState;
 
-const VOLUMES: [u32; 6] = [200, 300, 300, 1000, 4095, 4096];
+const VOLUMES: [u32; 7] = [200, 300, 300, 1000, 1000, 4095, 4096];
 const DAMAGES: u32 = 12;
 /// The stores between two damages are at most this part of those left.
 const PART: u32 = 4;

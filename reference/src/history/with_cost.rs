@@ -1,15 +1,16 @@
 //! Histories for `inspect`, with `cost` lines among the other lines.
 
-use crate::bench::Bench;
 use crate::calls::MAX_COUNT;
-use crate::line::{parse, Line, Operation};
+use crate::inspector::Inspector;
+use crate::line::{self, Line, Operation};
 use crate::memory::{Memory, Pending, SlotState};
 use crate::random::Random;
+use crate::test_line::{self, TestLine};
 use std::iter::once;
 
 /// The choice has random numbers of its own. Their seed is this one xor the history's.
 const OWN_SEED: u64 = 0x636f_7374;
-/// One in this many allocates has no line of its cost before it.
+/// One in this many allocates and extents has no line of its cost before it.
 const UNFORETOLD_ALLOCATE_IN: u32 = 4;
 /// One in this many precommits has no line of its commit's cost before it.
 const UNFORETOLD_PRECOMMIT_IN: u32 = 3;
@@ -20,27 +21,27 @@ const IN_WORK_IN: u32 = 20;
 const WRONG_SLOTS: [u32; 6] = [8, 9, 100, 256, 65_536, u32::MAX];
 const EDGE_COUNTS: [u32; 4] = [1, 63, 64, 65];
 
-/// Puts a `cost` line before most allocates, with their count, before many precommits, with the
-/// count 0, and before some other lines, but not before the first. The lines themselves stay as
-/// they are.
+/// Puts a `cost` line before most allocates and extents, with their count, before many precommits,
+/// with the count 0, and before some other lines, but not before the first. The lines themselves
+/// stay as they are.
 pub fn with_cost(seed: u64, lines: impl Iterator<Item = Vec<u8>>) -> impl Iterator<Item = Vec<u8>> {
     let mut random = Random::new(seed ^ OWN_SEED);
-    let mut bench = Bench::new();
+    let mut inspector = Inspector::new();
     lines.enumerate().flat_map(move |(index, line)| {
-        let cost = cost_before(&mut random, &bench.memory, &line).filter(|_| index > 0);
-        // The bench takes a line that isn't its own for one not in form, which alters nothing.
-        let _ = bench.run(&line);
+        let cost = cost_before(&mut random, &inspector.memory, &line).filter(|_| index > 0);
+        let _ = inspector.run(&line, &mut String::new());
         cost.into_iter().chain(once(line))
     })
 }
 
 /// The `cost` line before this one, if there is to be one.
 fn cost_before(random: &mut Random, memory: &Memory, line: &[u8]) -> Option<Vec<u8>> {
-    let (slot, count) = match parse(line) {
-        Some(Line { operation: Operation::Allocate, slot, number }) => {
-            (!random.one_in(UNFORETOLD_ALLOCATE_IN)).then_some((slot, number))?
+    let (slot, count) = match (line::parse(line), test_line::parse(line)) {
+        (Some(Line { operation: Operation::Allocate, slot, number: count }), _)
+        | (_, Some(TestLine::Extent { slot, count, .. })) => {
+            (!random.one_in(UNFORETOLD_ALLOCATE_IN)).then_some((slot, count))?
         }
-        Some(Line { operation: Operation::Precommit, slot, .. }) => {
+        (Some(Line { operation: Operation::Precommit, slot, .. }), _) => {
             (!random.one_in(UNFORETOLD_PRECOMMIT_IN)).then_some((slot, 0))?
         }
         _ => any_cost(random, memory)?,

@@ -1,5 +1,6 @@
-//! Chains: a `cost` line whose slot then makes the calls that it speaks of and no other. The lines
-//! of other slots, stores and statuses may stand in between, but no crash and no open.
+//! Chains: a `cost` line whose slot then makes the calls that it speaks of and no other, an extent
+//! counted as an allocate. The lines of other slots, stores and statuses may stand in between, but
+//! no crash and no open.
 
 use reference::line::{self, Line, Operation};
 use reference::test_line::{self, TestLine};
@@ -12,6 +13,8 @@ struct Begun {
     cost: u32,
     /// The blocks still to be allocated.
     left: u32,
+    /// Whether they were allocated in an extent.
+    extent: bool,
 }
 
 /// The chains that ended with a commit that has stores: with as many as foretold, and with fewer.
@@ -23,15 +26,36 @@ pub struct Chains {
     pub fewer: [u32; 2],
     /// Those that touched nothing.
     pub without_store: u32,
+    /// Those whose blocks lie in an extent.
+    pub with_extents: u32,
 }
 
 impl Chains {
     /// Takes note of a line that was accepted, with its value.
     pub fn note(&mut self, line: &[u8], value: u32) {
-        if let Some(TestLine::Cost { slot, count }) = test_line::parse(line) {
-            self.begun[slot as usize].push(Begun { count, cost: value, left: count });
-        } else if let Some(line) = line::parse(line) {
-            self.note_call(&line, value);
+        match (test_line::parse(line), line::parse(line)) {
+            (Some(TestLine::Cost { slot, count }), _) => {
+                self.begun[slot as usize].push(Begun {
+                    count,
+                    cost: value,
+                    left: count,
+                    extent: false,
+                });
+            }
+            (Some(TestLine::Extent { slot, count, .. }), _) => {
+                self.note_taken(slot as usize, count, true);
+            }
+            (_, Some(line)) => self.note_call(&line, value),
+            _ => {}
+        }
+    }
+
+    /// Takes note of so many blocks allocated, in an extent or not.
+    fn note_taken(&mut self, slot: usize, count: u32, extent: bool) {
+        self.begun[slot].retain(|begun| begun.left == count);
+        for begun in &mut self.begun[slot] {
+            begun.left = 0;
+            begun.extent = extent;
         }
     }
 
@@ -42,10 +66,7 @@ impl Chains {
             Operation::Start | Operation::Deallocate | Operation::Rollback => {
                 self.begun[slot].clear()
             }
-            Operation::Allocate => {
-                self.begun[slot].retain(|begun| begun.left == line.number);
-                self.begun[slot].iter_mut().for_each(|begun| begun.left = 0);
-            }
+            Operation::Allocate => self.note_taken(slot, line.number, false),
             Operation::Precommit => self.begun[slot].retain(|begun| begun.left == 0),
             Operation::Commit => {
                 let begun = take(&mut self.begun[slot]);
@@ -58,6 +79,7 @@ impl Chains {
     fn end(&mut self, begun: &Begun, stores: u32) {
         assert!(stores <= begun.cost, "{stores} stores, {} foretold", begun.cost);
         let kind = usize::from(begun.count == 0);
+        self.with_extents += u32::from(begun.extent);
         match stores {
             0 => self.without_store += 1,
             _ if stores == begun.cost => self.equal[kind] += 1,

@@ -1,17 +1,28 @@
 //! The comparison of an allocator with the ledger, after every call of a history.
 
+use crate::extents::Asked;
 use reference::bench::Bench;
 use reference::history::{History, Shape};
 use reference::line::{parse, Line, Operation};
 use reference::test_line::{self, TestLine};
-use reference::{commit_cost, open, store, Call, Error, Ledger, Memory, BITMAP_START, LOG_START};
+use reference::{
+    allocate_extent, commit_cost, open, store, Call, Error, Ledger, Memory, BITMAP_START, LOG_START,
+};
 
 /// How an allocator takes a line in form.
 pub type Step = fn(&mut Bench, &Line) -> Result<u32, Error>;
+/// How it takes an extent.
+pub type ExtentStep = fn(&mut Bench, Asked) -> Result<u32, Error>;
 
 /// A history that stays within the premises of demand 3.
 pub fn history(seed: u64) -> History {
-    let shape = Shape { blocks: 0, malformed: false, reformats: false };
+    let shape = Shape { blocks: 0, malformed: false, reformats: false, extents: false };
+    History::new(seed, shape).unwrap()
+}
+
+/// The same with extent lines.
+pub fn history_with_extents(seed: u64) -> History {
+    let shape = Shape { blocks: 0, malformed: false, reformats: false, extents: true };
     History::new(seed, shape).unwrap()
 }
 
@@ -20,24 +31,43 @@ pub fn fault_in_history(seed: u64, lines: usize, step: Step) -> Option<&'static 
     fault_in_lines(history(seed).take(lines), step)
 }
 
-/// What it finds wrong in bench lines in form and `cost` lines. These are calls too, of which the
-/// ledger is told nothing.
-pub fn fault_in_lines(
+/// What it finds wrong in bench lines in form and in `cost` and `extent` lines.
+pub fn fault_in_lines(lines: impl Iterator<Item = Vec<u8>>, step: Step) -> Option<&'static str> {
+    fault_of_steps(lines, step, right_extent)
+}
+
+/// The same with an allocator that takes extents in its own way. Commit costs are calls too, of
+/// which the ledger is told nothing.
+pub fn fault_of_steps(
     mut lines: impl Iterator<Item = Vec<u8>>,
     step: Step,
+    extent_step: ExtentStep,
 ) -> Option<&'static str> {
     let mut bench = Bench::new();
     let mut ledger = Ledger::new();
     lines.find_map(|line| {
-        if let Some(TestLine::Cost { slot, count }) = test_line::parse(&line) {
-            let _ = commit_cost(&bench.memory, slot, count);
-        } else {
-            let line = parse(&line).unwrap();
-            let answer = step(&mut bench, &line);
-            record(&mut ledger, &line, answer, &bench.list);
+        match test_line::parse(&line) {
+            Some(TestLine::Cost { slot, count }) => {
+                let _ = commit_cost(&bench.memory, slot, count);
+            }
+            Some(TestLine::Extent { slot, count, near }) => {
+                let answer = extent_step(&mut bench, Asked { slot, count, near });
+                let listed = if answer.is_ok() { &bench.list[..count as usize] } else { &[] };
+                ledger.record(&Call::extent(slot, answer.is_ok(), listed));
+            }
+            _ => {
+                let line = parse(&line).unwrap();
+                let answer = step(&mut bench, &line);
+                record(&mut ledger, &line, answer, &bench.list);
+            }
         }
         fault(&bench, &ledger).or_else(|| invalid_memory(&bench))
     })
+}
+
+pub fn right_extent(bench: &mut Bench, asked: Asked) -> Result<u32, Error> {
+    let Asked { slot, count, near } = asked;
+    allocate_extent(&mut bench.memory, slot, count, near, &mut bench.list)
 }
 
 /// Enters a line in form with its answer and, for an allocate, the list that it was lent.

@@ -30,8 +30,11 @@ const CALLS: [&str; 20] = [
 /// The causes of commit cost.
 const COST_CAUSES: [usize; 7] = [1, 8, 10, 12, 13, 15, 17];
 
-/// Every call that a cause names is refused for it this often, commit cost twice as often, and no
-/// other call.
+/// The causes of allocate extent.
+const EXTENT_CAUSES: [usize; 9] = [1, 8, 10, 12, 13, 15, 16, 18, 22];
+
+/// Every call that a cause names is refused for it this often, an extent too, commit cost twice as
+/// often, and no other call.
 fn assert_reached(seed: u64, lines: usize, least: u32) {
     let seen = observe(seed, lines);
     for (code, calls) in (1..).zip(CALLS) {
@@ -47,6 +50,11 @@ fn assert_reached(seed: u64, lines: usize, least: u32) {
     for (code, times) in seen.costs.answers.into_iter().enumerate().skip(1) {
         let right = if COST_CAUSES.contains(&code) { times >= 2 * least } else { times == 0 };
         assert!(right, "cost gets {code} {times} times in seed {seed}");
+    }
+    println!("seed {seed}: {:?}", seen.extents.answers);
+    for (code, times) in seen.extents.answers.into_iter().enumerate().skip(1) {
+        let right = if EXTENT_CAUSES.contains(&code) { times >= least } else { times == 0 };
+        assert!(right, "an extent gets {code} {times} times in seed {seed}");
     }
 }
 
@@ -104,4 +112,33 @@ fn cost_lines_stand_in_states_of_many_kinds() {
     assert!(seen.by_touched.iter().all(|times| *times >= 20));
     assert!(seen.busy >= 350 && seen.altered >= 150);
     assert!(seen.short_lists >= 25 && seen.foreign_disks >= 150);
+}
+
+#[test]
+fn six_sequences_of_4000_lines_reach_each_cause_of_an_extent_dozens_of_times() {
+    let mut answers = [0; 23];
+    for seed in 1..=6 {
+        let seen = observe(seed, 4000).extents.answers;
+        answers.iter_mut().zip(seen).for_each(|(all, times)| *all += times);
+    }
+    println!("{answers:?}");
+    assert!(EXTENT_CAUSES.iter().all(|code| answers[*code] >= 36), "{answers:?}");
+    assert!(answers[0] >= 100, "{answers:?}");
+}
+
+#[test]
+fn extent_lines_stand_in_states_of_many_kinds() {
+    for seed in 0..8 {
+        let seen = observe(seed, 3000).extents;
+        assert!(seen.answers[0] >= 10 && seen.altered >= 1, "seed {seed}: {seen:?}");
+        assert!(seen.several_causes >= 20, "seed {seed}: {seen:?}");
+    }
+    let seen = observe(9, 60_000).extents;
+    println!("{seen:?}");
+    assert!(seen.answers[0] >= 350 && seen.several_causes >= 700 && seen.not_in_form >= 80);
+    assert!(seen.at_near >= 100 && seen.below >= 100 && seen.above >= 80 && seen.ties >= 30);
+    assert!(seen.from_0 >= 20 && seen.to_the_end >= 50);
+    assert!(seen.in_two_words >= 50 && seen.in_three_words >= 15 && seen.longest >= 15);
+    assert!(seen.busy >= 150 && seen.altered >= 60 && seen.foreign_disks >= 80);
+    assert!(seen.short_lists >= 40 && seen.scattered >= 40);
 }

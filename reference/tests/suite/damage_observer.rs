@@ -1,6 +1,8 @@
 //! What a damaging sequence does: it is run, checked and counted.
 
 use crate::cost_observer::SeenCosts;
+use crate::extent_observer::SeenExtents;
+use crate::extents::Asked;
 use crate::status_observer::{check_status, SeenStatuses};
 use reference::damage::Damage;
 use reference::inspector::Inspector;
@@ -44,6 +46,7 @@ pub struct Seen {
     pub empty_lists: u32,
     pub statuses: SeenStatuses,
     pub costs: SeenCosts,
+    pub extents: SeenExtents,
 }
 
 /// Runs a sequence and checks that refused lines leave all as it was.
@@ -72,6 +75,9 @@ pub fn observe(seed: u64, lines: usize) -> Seen {
             (None, answer) => {
                 let altered = before.memory != memory_after_call;
                 seen.count_test_line(&line, &before, &inspector, (answer, &more), altered);
+                if matches!(test_line::parse(&line), Some(TestLine::Extent { .. })) {
+                    memory_after_call = inspector.memory.clone();
+                }
             }
         }
     }
@@ -99,6 +105,10 @@ impl Seen {
                 assert_eq!((after, more), (before, ""));
                 self.costs.count(before, (slot, count), answer, altered);
             }
+            Some(TestLine::Extent { slot, count, near }) => {
+                assert_eq!(more, "");
+                self.extents.count(before, after, Asked { slot, count, near }, answer, altered);
+            }
             other => {
                 assert!(answer == Ok(0) || answer == Err(Error::MalformedLine));
                 assert!(answer.is_ok() || after == before);
@@ -117,6 +127,7 @@ impl Seen {
         let almost = |word: &[u8]| u32::from(text.trim_ascii().starts_with(word));
         self.statuses.not_in_form += almost(b"statu");
         self.costs.not_in_form += almost(b"cost");
+        self.extents.not_in_form += almost(b"extent");
     }
 
     fn count_accepted(

@@ -67,6 +67,10 @@ fn the_program_prints_a_history_that_depends_on_its_arguments_alone() {
     assert_eq!(damage.iter().filter(|byte| **byte == b'\n').count(), 400);
     assert_eq!(damage, print(&["damage", "5", "400"]));
     assert_ne!(damage, print(&["damage", "6", "400"]));
+    let extents = print(&["extents", "5", "400"]);
+    assert_eq!(extents.iter().filter(|byte| **byte == b'\n').count(), 400);
+    assert_eq!(extents, print(&["extents", "5", "400"]));
+    assert_ne!(extents, print(&["extents", "6", "400"]));
 }
 
 #[test]
@@ -96,6 +100,13 @@ fn the_options_of_a_history_stand_in_any_order() {
     assert_eq!(all, print(&["--status", "--malformed", "--cost"]));
     assert_eq!(all, print(&["--malformed", "--cost", "--status"]));
     assert_eq!(without_cost(all), both);
+    let extent = print(&["--extent"]);
+    assert!(extent.matches("\nextent ").count() > 20);
+    assert_eq!(extent.lines().count(), 400);
+    assert_eq!(without_cost(print(&["--extent", "--cost"])), extent);
+    let all = print(&["--cost", "--extent", "--malformed", "--status"]);
+    assert_eq!(all, print(&["--extent", "--status", "--malformed", "--cost"]));
+    assert_eq!(without_status(without_cost(all)), print(&["--malformed", "--extent"]));
 }
 
 #[test]
@@ -128,7 +139,7 @@ call=16 answer=8 value=0
 
 #[test]
 fn the_program_refuses_other_arguments() {
-    let cases: [&[&str]; 15] = [
+    let cases: [&[&str]; 19] = [
         &[],
         &["benches"],
         &["history", "1", "2"],
@@ -140,10 +151,14 @@ fn the_program_refuses_other_arguments() {
         &["history", "1", "2", "3", "--cost", "--costs"],
         &["history", "1", "2", "--status"],
         &["history", "1", "2", "--cost"],
+        &["history", "1", "2", "3", "--extent", "--extent"],
+        &["history", "1", "2", "3", "--extents"],
         &["inspect", "1"],
         &["sweep", "1"],
         &["damage", "1"],
         &["damage", "1", "x"],
+        &["extents", "1"],
+        &["extents", "1", "x"],
     ];
     for arguments in cases {
         let output = run_program(arguments, "");

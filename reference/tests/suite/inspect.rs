@@ -164,7 +164,7 @@ fn the_lines_of_the_program() {
 #[test]
 fn bench_lines_have_the_bench_programs_answers() {
     for (seed, blocks) in [(1, 0), (2, 33), (3, 4096)] {
-        let shape = Shape { blocks, malformed: true, reformats: true };
+        let shape = Shape { blocks, malformed: true, reformats: true, extents: false };
         let lines: Vec<Vec<u8>> = History::new(seed, shape).unwrap().take(5000).collect();
         let input = lines.join(&b'\n');
         let (mut expected, mut output) = (Vec::new(), Vec::new());

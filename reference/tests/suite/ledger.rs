@@ -1,6 +1,6 @@
 //! Demand 3: the ledger beside the allocator, compared after every call of random histories.
 
-use crate::comparison::fault_in_history;
+use crate::comparison::{fault_in_history, fault_in_lines, history_with_extents};
 use reference::bench::Bench;
 use reference::line::Operation;
 use reference::{BlockSet, Call, Ledger};
@@ -22,6 +22,31 @@ fn the_ledger_holds_in_long_histories() {
         let fault = fault_in_history(HISTORIES + seed, 10_000, Bench::call);
         assert_eq!(fault, None, "seed {}", HISTORIES + seed);
     }
+}
+
+#[test]
+fn the_ledger_holds_with_extents_entered_as_allocates() {
+    for (seed, lines) in (0..300).map(|seed| (seed, LINES)).chain([(300, 10_000), (301, 10_000)]) {
+        let fault = fault_in_lines(history_with_extents(seed).take(lines), Bench::call);
+        assert_eq!(fault, None, "seed {seed}");
+    }
+}
+
+#[test]
+fn the_ledger_enters_an_extent_as_an_allocate() {
+    let mut ledger = Ledger::new();
+    ledger.record(&Call::extent(3, true, &[62, 63, 64]));
+    ledger.record(&Call::extent(3, false, &[]));
+    assert_eq!(ledger.touched(), (3, 0));
+    ledger.record(&call(Operation::Commit, 3, 0, &[]));
+    (0..4).for_each(|_| ledger.record(&call(Operation::Store, 0, 0, &[])));
+    assert_eq!(*ledger.allocated(), BlockSet::EMPTY);
+    ledger.record(&call(Operation::Store, 0, 0, &[]));
+    assert!(ledger.allocated().equals_words(&words(&[62, 63, 64])));
+    ledger.record(&Call::extent(4, true, &[65, 66]));
+    assert!(ledger.has_single_holders());
+    ledger.record(&Call::extent(5, true, &[63]));
+    assert!(!ledger.has_single_holders());
 }
 
 fn call(operation: Operation, slot: u32, block: u32, listed: &[u32]) -> Call<'_> {

@@ -2,7 +2,7 @@
 
 use reference::line::{parse, Line, Operation};
 
-const NOT_IN_FORM: [&[u8]; 48] = [
+const NOT_IN_FORM: [&[u8]; 50] = [
     b"",
     b" ",
     b"op=open",
@@ -48,6 +48,8 @@ const NOT_IN_FORM: [&[u8]; 48] = [
     b"op=cut1 seat=0 n=0",
     b"op=cost seat=0 n=0",
     b"cost 0 0",
+    b"op=extent seat=0 n=0",
+    b"extent 0 1 0",
     b"op=open slot=0 n=0",
     b"op=open seat=0 N=0",
     b"\xef\xbb\xbfop=open seat=0 n=0",

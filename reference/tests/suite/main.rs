@@ -1,6 +1,7 @@
 //! The tests of the reference allocator, against documents 01 and 02.
 
 mod agreement;
+mod allocate_extent;
 mod causes;
 mod chains;
 mod commit_cost;
@@ -16,6 +17,12 @@ mod crashes;
 mod damage;
 mod damage_observer;
 mod example;
+mod extent_causes;
+mod extent_histories;
+mod extent_line;
+mod extent_observer;
+mod extent_sequences;
+mod extents;
 mod histories;
 mod inspect;
 mod ledger;

@@ -3,21 +3,23 @@
 
 use crate::costs::cost_by_blocks;
 use crate::counts::counts_by_blocks;
+use crate::extents::{extent_by_blocks, Asked};
 use crate::state::{State, UNWRITTEN};
 use reference::bench::Bench;
 use reference::history::{History, Shape};
 use reference::{
-    allocate, commit, commit_cost, deallocate, format, open, precommit, rollback, start, status,
-    store, Bitmap, Error, Memory, Pending, Random, Slot, SlotState, DISK_WORDS,
+    allocate, allocate_extent, commit, commit_cost, deallocate, format, open, precommit, rollback,
+    start, status, store, Bitmap, Error, Memory, Pending, Random, Slot, SlotState, DISK_WORDS,
 };
 
 const NUMBERS: [u32; 14] = [0, 1, 2, 3, 7, 8, 31, 64, 65, 128, 129, 4096, u32::MAX - 1, u32::MAX];
 
-type AnyCall = fn(&mut State, u32, u32) -> Result<u32, Error>;
+/// A call with a slot, a number and, for an extent, a near block.
+type AnyCall = fn(&mut State, u32, u32, u32) -> Result<u32, Error>;
 
-const CALLS: [AnyCall; 11] = [
-    |s, _, number| format(&mut s.disk, number).map(|()| 0),
-    |s, _, _| {
+const CALLS: [AnyCall; 12] = [
+    |s, _, number, _| format(&mut s.disk, number).map(|()| 0),
+    |s, _, _, _| {
         let opened = open(&s.disk);
         match opened.answer {
             Ok(_) => s.memory = opened.memory,
@@ -25,21 +27,27 @@ const CALLS: [AnyCall; 11] = [
         }
         opened.answer
     },
-    |s, slot, _| start(&mut s.memory, slot).map(|()| 0),
-    |s, slot, number| allocate(&mut s.memory, slot, number, &mut s.list).map(|()| 0),
-    |s, slot, number| deallocate(&mut s.memory, slot, number).map(|()| 0),
-    |s, slot, _| precommit(&mut s.memory, slot).map(|()| 0),
-    |s, slot, _| commit(&mut s.memory, slot),
-    |s, slot, _| rollback(&mut s.memory, slot).map(|()| 0),
-    |s, _, _| store(&mut s.memory, &mut s.disk),
-    |s, _, _| {
+    |s, slot, _, _| start(&mut s.memory, slot).map(|()| 0),
+    |s, slot, number, _| allocate(&mut s.memory, slot, number, &mut s.list).map(|()| 0),
+    |s, slot, number, _| deallocate(&mut s.memory, slot, number).map(|()| 0),
+    |s, slot, _, _| precommit(&mut s.memory, slot).map(|()| 0),
+    |s, slot, _, _| commit(&mut s.memory, slot),
+    |s, slot, _, _| rollback(&mut s.memory, slot).map(|()| 0),
+    |s, _, _, _| store(&mut s.memory, &mut s.disk),
+    |s, _, _, _| {
         let counts = status(&s.memory)?;
         assert_eq!(counts, counts_by_blocks(&s.memory));
         Ok(counts.active)
     },
-    |s, slot, number| {
+    |s, slot, number, _| {
         let answer = commit_cost(&s.memory, slot, number);
         assert_eq!(answer, cost_by_blocks(&s.memory, slot, number));
+        answer
+    },
+    |s, slot, count, near| {
+        let expected = extent_by_blocks(&s.memory, s.list.len(), Asked { slot, count, near });
+        let answer = allocate_extent(&mut s.memory, slot, count, near, &mut s.list);
+        assert_eq!(answer, expected);
         answer
     },
 ];
@@ -98,11 +106,11 @@ fn damaged_state(random: &mut Random, bench: &Bench) -> State {
 }
 
 /// Makes every call and counts the answers, accepted ones as 0.
-fn make_every_call(random: &mut Random, state: &State, answers: &mut [u32; 22]) {
+fn make_every_call(random: &mut Random, state: &State, answers: &mut [u32; 23]) {
     for (index, call) in CALLS.iter().enumerate() {
         let slot = if random.one_in(8) { number(random) } else { random.below(8) };
         let mut after = state.clone();
-        let answer = call(&mut after, slot, number(random));
+        let answer = call(&mut after, slot, number(random), number(random));
         match answer {
             Err(_) => assert_eq!(after, *state),
             Ok(_) if index == 0 => assert_eq!(after.memory, state.memory),
@@ -115,7 +123,7 @@ fn make_every_call(random: &mut Random, state: &State, answers: &mut [u32; 22]) 
 #[test]
 fn calls_on_anything() {
     let mut random = Random::new(6);
-    let mut answers = [0; 22];
+    let mut answers = [0; 23];
     for _ in 0..5000 {
         let state = any_state(&mut random);
         make_every_call(&mut random, &state, &mut answers);
@@ -128,9 +136,9 @@ fn calls_on_anything() {
 #[test]
 fn calls_on_damaged_states() {
     let mut random = Random::new(7);
-    let mut answers = [0; 22];
+    let mut answers = [0; 23];
     for seed in 0..100 {
-        let shape = Shape { blocks: 0, malformed: false, reformats: true };
+        let shape = Shape { blocks: 0, malformed: false, reformats: true, extents: false };
         let mut bench = Bench::new();
         for line in History::new(seed, shape).unwrap().take(100) {
             let _ = bench.run(&line);
@@ -139,7 +147,7 @@ fn calls_on_damaged_states() {
         }
     }
     println!("{answers:?}");
-    for (code, count) in answers.iter().enumerate().take(21) {
+    for (code, count) in answers.iter().enumerate().filter(|(code, _)| *code != 21) {
         assert!(*count > 20, "cause {code}");
     }
 }

@@ -148,7 +148,7 @@ pub fn assert_accepted<Answer: std::fmt::Debug>(
 
 /// The states of a history, one after each line.
 pub fn states_of(seed: u64, blocks: u32, lines: usize) -> impl Iterator<Item = Bench> {
-    let shape = Shape { blocks, malformed: false, reformats: false };
+    let shape = Shape { blocks, malformed: false, reformats: false, extents: false };
     let mut bench = Bench::new();
     let run = move |line: Vec<u8>| {
         let _ = bench.run(&line);

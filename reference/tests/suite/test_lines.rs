@@ -4,7 +4,7 @@ use reference::inspector::Inspector;
 use reference::test_line::{parse, TestLine};
 use reference::{Error, Memory, Pending, SlotState};
 
-const IN_FORM: [(&str, TestLine); 18] = [
+const IN_FORM: [(&str, TestLine); 21] = [
     ("disk 0 0", TestLine::Disk { index: 0, word: 0 }),
     ("disk 385 4294967295", TestLine::Disk { index: 385, word: u32::MAX }),
     ("disk 0000000007 0000000009", TestLine::Disk { index: 7, word: 9 }),
@@ -21,11 +21,17 @@ const IN_FORM: [(&str, TestLine); 18] = [
     ("cost 7 64", TestLine::Cost { slot: 7, count: 64 }),
     ("cost 4294967295 4294967295", TestLine::Cost { slot: u32::MAX, count: u32::MAX }),
     ("cost 0000000003 0000000000", TestLine::Cost { slot: 3, count: 0 }),
+    ("extent 7 64 4095", TestLine::Extent { slot: 7, count: 64, near: 4095 }),
+    (
+        "extent 4294967295 4294967295 4294967295",
+        TestLine::Extent { slot: u32::MAX, count: u32::MAX, near: u32::MAX },
+    ),
+    ("extent 0000000003 0000000000 01", TestLine::Extent { slot: 3, count: 0, near: 1 }),
     ("show", TestLine::Show),
     ("status", TestLine::Status),
 ];
 
-const NOT_IN_FORM: [&[u8]; 62] = [
+const NOT_IN_FORM: [&[u8]; 69] = [
     b"",
     b" ",
     b"show ",
@@ -57,6 +63,13 @@ const NOT_IN_FORM: [&[u8]; 62] = [
     b"cost  0 0",
     b"cost 0 4294967296",
     b"op=cost seat=0 n=0",
+    b"extent",
+    b"extent 0 1",
+    b"extent 0 1 ",
+    b"extent 0 1 2 ",
+    b"extent 0 1 2 3",
+    b"extent 0 1 4294967296",
+    b"op=extent seat=0 n=0",
     b"disk",
     b"disk ",
     b"disk 1",

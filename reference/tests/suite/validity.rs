@@ -108,7 +108,7 @@ fn validity_is_document_01s_read_block_by_block() {
     let mut counts = [0; 2];
     for seed in 0..60 {
         let blocks = random.choose(&[1, 4, 31, 33, 64, 100, 4095, 4096]);
-        let shape = Shape { blocks, malformed: false, reformats: false };
+        let shape = Shape { blocks, malformed: false, reformats: false, extents: false };
         let mut bench = Bench::new();
         for line in History::new(seed, shape).unwrap().take(120) {
             let _ = bench.run(&line);

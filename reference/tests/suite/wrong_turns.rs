@@ -1,7 +1,10 @@
-//! The wrong turns of document 01: the comparison with the ledger notices an allocator that takes
-//! one. Each is the right allocator with one thing undone after the call.
+//! The wrong turns of document 01, and some of extents: the comparison with the ledger notices an
+//! allocator that takes one. Each is the right allocator with one thing undone after the call.
 
-use crate::comparison::{fault_in_history, Step};
+use crate::comparison::{
+    fault_in_history, fault_of_steps, history_with_extents, right_extent, ExtentStep, Step,
+};
+use crate::extents::{nearest_start, put, Asked};
 use reference::bench::Bench;
 use reference::line::{Line, Operation};
 use reference::{majority, Bitmap, Error, Pending, SlotState, LOG_LENGTH_POSITION, LOG_START};
@@ -10,6 +13,15 @@ use reference::{majority, Bitmap, Error, Pending, SlotState, LOG_LENGTH_POSITION
 fn faults(step: Step) -> Vec<&'static str> {
     let mut faults: Vec<_> =
         (0..100).filter_map(|seed| fault_in_history(seed, 300, step)).collect();
+    faults.sort_unstable();
+    faults.dedup();
+    faults
+}
+
+/// The same in histories with extent lines.
+fn faults_of_extents(step: ExtentStep) -> Vec<&'static str> {
+    let fault = |seed| fault_of_steps(history_with_extents(seed).take(300), Bench::call, step);
+    let mut faults: Vec<_> = (0..100).filter_map(fault).collect();
     faults.sort_unstable();
     faults.dedup();
     faults
@@ -87,9 +99,62 @@ fn log_not_replayed(bench: &mut Bench, line: &Line) -> Result<u32, Error> {
     bench.call(line)
 }
 
+/// An extent over blocks whose release isn't committed.
+fn extent_over_releases(bench: &mut Bench, asked: Asked) -> Result<u32, Error> {
+    let answer = right_extent(bench, asked);
+    let mut memory = bench.memory.clone();
+    memory.sam = Bitmap::EMPTY;
+    match (answer, nearest_start(&memory, asked.count.max(1), asked.near)) {
+        (Err(Error::NoExtent), Some(start)) => {
+            for place in 0..asked.count {
+                put(&mut bench.memory.com, start + place);
+                put(&mut bench.memory.slots[asked.slot as usize].tam, start + place);
+                bench.list[place as usize] = start + place;
+            }
+            Ok(start)
+        }
+        _ => answer,
+    }
+}
+
+/// An extent that isn't in the transaction's bitmap.
+fn extent_not_in_tam(bench: &mut Bench, asked: Asked) -> Result<u32, Error> {
+    let before = bench.memory.slots;
+    let answer = right_extent(bench, asked);
+    bench.memory.slots = before;
+    answer
+}
+
+/// An extent of which another block is listed than the first.
+fn extent_listed_wrongly(bench: &mut Bench, asked: Asked) -> Result<u32, Error> {
+    let answer = right_extent(bench, asked)?;
+    bench.list[0] = answer.checked_sub(1).unwrap_or(4095);
+    Ok(answer)
+}
+
 #[test]
 fn the_right_allocator_has_no_fault() {
     assert!(faults(Bench::call).is_empty());
+    assert!(faults_of_extents(right_extent).is_empty());
+}
+
+#[test]
+fn the_comparison_notices_an_extent_over_releases() {
+    assert!(faults_of_extents(extent_over_releases).contains(&"a block has two holders"));
+}
+
+#[test]
+fn the_comparison_notices_an_extent_not_in_tam() {
+    assert_eq!(faults_of_extents(extent_not_in_tam), ["the memory isn't valid"]);
+}
+
+#[test]
+fn the_comparison_notices_an_extent_listed_wrongly() {
+    let faults = faults_of_extents(extent_listed_wrongly);
+    assert!(
+        faults.contains(&"an open gives another SAM")
+            && faults.contains(&"a block has two holders")
+    );
 }
 
 #[test]

@@ -1,10 +1,11 @@
 -- `extents::starts::narrow` meets its contract. The loop's invariant: the words before k are narrowed, the others as they were.
 use Prim.Native.Nat.{ℕ, _+_, _-_, _*_, _/_, _%_, _^_, _≤_, _<_}
-use native.Mathlib.Nat.{le-refl}
+use native.Mathlib.Nat.{le-refl, lt-trans, lt-of-le-of-lt}
 use native.Mathlib.Omega.{arith}
 use mathlib.Core.Path.{_≡_, ap₂}
 use lib.ListN.{getD}
-use lib.Bits.{bitAnd, bitOr}
+use lib.Bits.{bitAnd, bitOr, and-le-l}
+use lib.Pow.{pow-lt}
 use borrow.Author.Needs.{needs}
 use Rattle.bitmap.specs.Sizes.{wordBits}
 use Rattle.extents.proofs.Laws.Words.{Renewed, none-renewed, renewed-from, renewed-more, renewed-are}
@@ -43,7 +44,7 @@ element-copy-out-word : tie.Need-element-copy-out-word Inv-loop μ-loop
 element-copy-out-word c = search needs
 
 cast-word : tie.Need-cast-word Inv-loop μ-loop
-cast-word c = omega (arith, small (c .before .before) (c .before .before .loop .k))
+cast-word c = record { fits = lt-trans (small (c .before .before) _) (pow-lt {i = 32} {j = 64} (omega arith)) }
 
 add-pair : tie.Need-add-pair Inv-loop μ-loop
 add-pair c = search needs
@@ -55,7 +56,7 @@ element-copy-out-pair : tie.Need-element-copy-out-pair Inv-loop μ-loop
 element-copy-out-pair c = search needs
 
 cast-pair : tie.Need-cast-pair Inv-loop μ-loop
-cast-pair c = omega (arith, small (c .before .before .before) (c .before .before .before .loop .k + 1))
+cast-pair c = record { fits = lt-trans (small (c .before .before .before) _) (pow-lt {i = 32} {j = 64} (omega arith)) }
 
 cast-pair-2 : tie.Need-cast-pair-2 Inv-loop μ-loop
 cast-pair-2 c = search needs
@@ -67,10 +68,7 @@ shr-starts : tie.Need-shr-starts Inv-loop μ-loop
 shr-starts c = search needs
 
 cast-starts : tie.Need-cast-starts Inv-loop μ-loop
-cast-starts c =
-    let l = c .before .before .before in
-    let s = narrowed-small (l .before .args .shift) (l .before .args .starts .now) (l .before .pre .1 .1 .0) (l .loop .k) in
-    omega (arith, s, narrowed-now l)
+cast-starts c = record { fits = lt-of-le-of-lt (and-le-l _ _) (small (c .before .before .before) _) }
 
 mul-starts : tie.Need-mul-starts Inv-loop μ-loop
 mul-starts c = search needs

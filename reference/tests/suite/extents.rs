@@ -1,0 +1,73 @@
+//! Allocate extent as document 02 says it, one block at a time.
+
+use reference::inspector::Inspector;
+use reference::{Bitmap, Error, Memory, Pending, SlotState};
+
+/// The arguments of an extent.
+#[derive(Clone, Copy, Debug)]
+pub struct Asked {
+    pub slot: u32,
+    pub count: u32,
+    pub near: u32,
+}
+
+/// What an extent is to answer with a list of so many places: allocate's causes without 17 in
+/// number order, then 18 and 22, then its first block.
+pub fn extent_by_blocks(memory: &Memory, places: usize, asked: Asked) -> Result<u32, Error> {
+    let Asked { slot, count, near } = asked;
+    if !memory.is_valid() {
+        return Err(Error::InvalidMemory);
+    }
+    if memory.pending != Pending::Nothing {
+        return Err(Error::WorkPending);
+    }
+    let Some(slot) = memory.slots.get(slot as usize) else {
+        return Err(Error::SlotNumber);
+    };
+    match slot.state {
+        SlotState::Idle => Err(Error::SlotIdle),
+        SlotState::Precommitted => Err(Error::SlotPrecommitted),
+        SlotState::Open if count == 0 || count > 64 => Err(Error::Count),
+        SlotState::Open if places < count as usize => Err(Error::ListLength),
+        SlotState::Open if near >= memory.blocks => Err(Error::BlockNumber),
+        SlotState::Open => nearest_start(memory, count, near).ok_or(Error::NoExtent),
+    }
+}
+
+/// From the near block outwards, the lower block first.
+pub fn nearest_start(memory: &Memory, count: u32, near: u32) -> Option<u32> {
+    (0..memory.blocks).find_map(|distance| {
+        let lower = near.checked_sub(distance);
+        [lower, Some(near + distance)].into_iter().flatten().find(|b| is_start(memory, *b, count))
+    })
+}
+
+/// Whether so many adjoining blocks from this one on are below m and have SAM 0 and COM 0.
+pub fn is_start(memory: &Memory, start: u32, count: u32) -> bool {
+    let is_available =
+        |block: u32| block < memory.blocks && !memory.sam.has(block) && !memory.com.has(block);
+    (0..count).all(|place| is_available(start + place))
+}
+
+/// Whether this start, the nearest one, has another above the near block that is equally far.
+pub fn is_tie(memory: &Memory, asked: Asked, start: u32) -> bool {
+    start < asked.near && is_start(memory, 2 * asked.near - start, asked.count)
+}
+
+/// The state is the former one, but for the blocks of the extent in COM, in the slot's bitmap and
+/// in the first places of the list.
+pub fn assert_granted(before: &Inspector, after: &Inspector, asked: Asked, start: u32) {
+    let mut expected = before.clone();
+    for place in 0..asked.count {
+        let block = start + place;
+        expected.list[place as usize] = block;
+        put(&mut expected.memory.com, block);
+        put(&mut expected.memory.slots[asked.slot as usize].tam, block);
+    }
+    assert_eq!(*after, expected, "{asked:?} at {start}");
+}
+
+/// Makes the block's bit 1.
+pub fn put(bitmap: &mut Bitmap, block: u32) {
+    bitmap.words[block as usize / 32] |= 1 << (block % 32);
+}
