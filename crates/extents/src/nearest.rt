@@ -1,20 +1,18 @@
 // The start of an extent that is nearest to a block, outward from the block's word.
 ghost use mathlib.Core.Path.{_≡_};
 ghost use Prim.Native.Nat.{_≤_, _<_};
-ghost use Rattle.bitmap.specs.Sizes.{maxBlocks, maxCount};
+ghost use Rattle.bitmap.specs.Sizes.{maxBlocks};
 ghost use Rattle.bitmap.specs.Bits.{bit, IsBitmap};
 ghost use Rattle.bitmap.specs.Blocks.{from, isAvailable};
 ghost use Rattle.bitmap.specs.Extents.{nearest, starts};
-ghost use Rattle.extents.specs.Starts.{AreWords, NoneFrom};
-ghost use Rattle.extents.specs.Nearest.{nextStart, endBefore};
+ghost use Rattle.extents.specs.Starts.{AreWords};
+ghost use Rattle.extents.specs.Nearest.{nextStart, endBefore, CanLook, CanSearch};
 use crate::starts::find_starts;
 use bitmap::Bitmap;
 
 // The lowest start from a block on, or the number of blocks where there is none.
 fn next_start(starts: &[u32; 129], blocks: u32, from: u32) -> u32
-    requires { ⌜ blocks ≤ maxBlocks ⌝ }
-    requires { ⌜ AreWords (now starts) ⌝ }
-    requires { ⌜ NoneFrom blocks (now starts) ⌝ }
+    requires { ⌜ CanLook blocks (now starts) ⌝ }
     ensures { λ r. ⌜ r ≡ nextStart blocks (now (starts .entry)) from ⌝ }
 {
     let mut block = from;
@@ -50,10 +48,8 @@ fn end_before(starts: &[u32; 129], from: u32) -> u32
 
 // Of all starts the nearest to a block, the lower one at equal distance, or the number of blocks where there is none.
 fn nearest_start(starts: &[u32; 129], blocks: u32, near: u32) -> u32
-    requires { ⌜ blocks ≤ maxBlocks ⌝ }
     requires { ⌜ near < blocks ⌝ }
-    requires { ⌜ AreWords (now starts) ⌝ }
-    requires { ⌜ NoneFrom blocks (now starts) ⌝ }
+    requires { ⌜ CanLook blocks (now starts) ⌝ }
     ensures { λ r. ⌜ r ≡ nearest near blocks (from (bit (now (starts .entry))) blocks 0) ⌝ }
 {
     let upper = next_start(starts, blocks, near);
@@ -74,10 +70,7 @@ fn nearest_start(starts: &[u32; 129], blocks: u32, near: u32) -> u32
 pub fn nearest_extent(sam: &[u32; 128], com: &[u32; 128], blocks: u32, count: u32, near: u32) -> u32
     requires { ⌜ IsBitmap (now sam) ⌝ }
     requires { ⌜ IsBitmap (now «com») ⌝ }
-    requires { ⌜ blocks ≤ maxBlocks ⌝ }
-    requires { ⌜ 1 ≤ count ⌝ }
-    requires { ⌜ count ≤ maxCount ⌝ }
-    requires { ⌜ near < blocks ⌝ }
+    requires { ⌜ CanSearch blocks count near ⌝ }
     ensures { λ r. ⌜ r ≡ nearest near blocks (starts (isAvailable (now (sam .entry)) (now («com» .entry))) blocks count) ⌝ }
 {
     let mut starts = [0; 129];

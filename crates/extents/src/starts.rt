@@ -1,8 +1,6 @@
 // Where extents start, as the bits of words: a bitmap's, and one word more that stays 0, since a word is read with the next one.
-ghost use Prim.Native.Nat.{_*_, _≤_};
-ghost use Rattle.bitmap.specs.Sizes.{maxBlocks, maxCount, bitmapWords, wordBits};
 ghost use Rattle.bitmap.specs.Bits.{IsBitmap};
-ghost use Rattle.extents.specs.Starts.{AreWords, AreZeros, AreStarts, NoneFrom, Narrowed};
+ghost use Rattle.extents.specs.Starts.{AreStarts, CanPut, CanFind, CanNarrow, Narrowed};
 use available::available::available_word;
 use bitmap::Bitmap;
 
@@ -10,8 +8,7 @@ use bitmap::Bitmap;
 fn put_available(sam: &[u32; 128], com: &[u32; 128], blocks: u32, starts: &mut [u32; 129])
     requires { ⌜ IsBitmap (now sam) ⌝ }
     requires { ⌜ IsBitmap (now «com») ⌝ }
-    requires { ⌜ blocks ≤ maxBlocks ⌝ }
-    requires { ⌜ AreZeros (now starts) ⌝ }
+    requires { ⌜ CanPut blocks (now starts) ⌝ }
     ensures { λ _. ⌜ AreStarts blocks (now (sam .entry)) (now («com» .entry)) 1 (now (starts .exit)) ⌝ }
 {
     let whole = (blocks / Bitmap::WORD_BITS) as usize;
@@ -25,10 +22,7 @@ fn put_available(sam: &[u32; 128], com: &[u32; 128], blocks: u32, starts: &mut [
 
 // Keeps the starts that have another start so many blocks above them. There are none from so many words on.
 fn narrow(starts: &mut [u32; 129], words: usize, shift: u32)
-    requires { ⌜ words ≤ bitmapWords ⌝ }
-    requires { ⌜ shift ≤ wordBits ⌝ }
-    requires { ⌜ AreWords (now starts) ⌝ }
-    requires { ⌜ NoneFrom (wordBits * words) (now starts) ⌝ }
+    requires { ⌜ CanNarrow words shift (now starts) ⌝ }
     ensures { λ _. ⌜ Narrowed shift (now (starts .entry)) (now (starts .exit)) ⌝ }
 {
     for k in 0..words {
@@ -49,10 +43,7 @@ pub(crate) fn find_starts(
 )
     requires { ⌜ IsBitmap (now sam) ⌝ }
     requires { ⌜ IsBitmap (now «com») ⌝ }
-    requires { ⌜ blocks ≤ maxBlocks ⌝ }
-    requires { ⌜ 1 ≤ count ⌝ }
-    requires { ⌜ count ≤ maxCount ⌝ }
-    requires { ⌜ AreZeros (now starts) ⌝ }
+    requires { ⌜ CanFind blocks count (now starts) ⌝ }
     ensures { λ _. ⌜ AreStarts blocks (now (sam .entry)) (now («com» .entry)) count (now (starts .exit)) ⌝ }
 {
     put_available(sam, com, blocks, starts);

@@ -1,22 +1,21 @@
 -- Allocate extent: its verdict, what the search and taking the blocks need, and the first block.
-use Prim.Native.Nat.{ℕ, _+_, _≤_, _<_}
+use Prim.Native.Nat.{ℕ, _≤_}
 use native.Mathlib.Nat.{add-zero}
 use native.Mathlib.Omega.{arith}
 use mathlib.Core.Path.{_≡_, refl, sym, ap, _∙_}
-use mathlib.Core.Bool.{Bool, true, false, cond, false≢true}
-use mathlib.Core.Option.{none}
-use mathlib.Core.List.{List, [], _∷_, _++_}
+use mathlib.Core.Bool.{Bool, true, false, cond}
+use mathlib.Core.List.{List}
 use lib.ListN.{length, getD}
 use lib.Dec.{eqb}
 use borrow.Author.Tests.{eq-eqb, ne-eqb, eqb-true, eqb-false}
-use Rattle.bitmap.specs.Blocks.{member, isAvailable}
+use Rattle.bitmap.specs.Blocks.{isAvailable}
 use Rattle.bitmap.specs.Extents.{adjoining, nearest, starts}
 use Rattle.bitmap.proofs.Laws.Extents.{nearest-none, member-some}
 use Rattle.model_types.specs.declared.error.Error.the-variants.{NoExtent}
 use Rattle.model_types.specs.declared.memory.Slot.{Slot}
 use Rattle.model_types.specs.declared.memory.Memory.{Memory}
 use Rattle.model_types.specs.Memory.{slotAt}
-use Rattle.model.specs.First.{first, _⇒_}
+use Rattle.model.specs.First.{first}
 use Rattle.model.specs.Causes.{countOutOfRange, listShort, blockOutOfRange, extentStarts, noExtent}
 use Rattle.model.specs.Calls.Precommit.{precommitError}
 use Rattle.model.specs.Calls.AllocateExtent.{allocateExtentError, nearestExtent}
@@ -24,13 +23,14 @@ use Rattle.model_types.proofs.Laws.Shape.{Shaped}
 use Rattle.model.proofs.Laws.First.{first-none}
 use Rattle.model.proofs.Laws.Valid.{ValidParts, valid-parts, slot-below}
 use Rattle.model.proofs.Laws.Accepted.{count-some, count-few, block-below, precommit-accepted, AllocateExtentAccepted}
-use Rattle.model.proofs.Laws.Extents.{nearestStart, nearest-extent, nearest-at, nearest-length}
+use Rattle.model.proofs.Laws.Extents.{nearestStart, nearest-extent, nearest-at}
 use Rattle.verdicts.specs.declared.verdict.Verdict.{Verdict}
 use Rattle.verdicts.specs.Verdicts.{verdict, isAccepted, unlessHolds, thenCauses}
 use Rattle.verdicts.proofs.Laws.Verdicts.{one-more, then-causes, then-passed, tested-last, accepted-none}
 use Rattle.available.specs.Take.{Takes}
 use Rattle.extents.specs.Take.{CanTakeExtent}
-use Rattle.allocate_extent.specs.Causes.{requestCauses, CanSearch}
+use Rattle.extents.specs.Nearest.{CanSearch}
+use Rattle.allocate_extent.specs.Causes.{requestCauses}
 
 module _ (memory : Memory) (s count near : ℕ) (list : List ℕ) where
   -- ---- the causes

@@ -1,7 +1,6 @@
 -- The causes of an open slot and of the request decide, and whether there is an extent; accepted, the bitmaps and the list are
 -- the definition's.
 use Prim.Native.Nat.{ℕ}
-use native.Mathlib.Omega.{arith}
 use mathlib.Core.Path.{_≡_, refl, sym, ap, ap₂, _∙_}
 use mathlib.Core.Logic.{⊎-elim}
 use mathlib.Core.Bool.{true}

@@ -1,5 +1,5 @@
 -- Three causes, one after the other.
-use mathlib.Core.Path.{_≡_, refl, ap, _∙_}
+use mathlib.Core.Path.{ap, _∙_}
 use mathlib.Core.Bool.{Bool, not}
 use lib.ListN.{length}
 use lib.Dec.{leb, ltb}

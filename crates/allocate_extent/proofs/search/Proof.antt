@@ -1,6 +1,6 @@
 -- The nearest extent if the request is accepted, and the number of blocks if not.
 use Prim.Native.Nat.{ℕ}
-use mathlib.Core.Path.{_≡_, sym, ap, _∙_}
+use mathlib.Core.Path.{sym, ap, _∙_}
 use mathlib.Core.Bool.{Bool, cond}
 use borrow.Author.Needs.{needs}
 use Rattle.bitmap.specs.Blocks.{isAvailable}
@@ -14,8 +14,7 @@ is-accepted-requires c κs = search needs
 nearest-extent-requires : tie.Need-nearest-extent-requires
 nearest-extent-requires c κs =
     let p = c .before .before .pre in
-    let can = p .1 .1 (sym (c .before .is-accepted .ensures) ∙ c .if1 .taken) in
-    (p .0, (p .1 .0, (can .volume, (can .some, (can .few, can .inside)))))
+    (p .0, (p .1 .0, p .1 .1 (sym (c .before .is-accepted .ensures) ∙ c .if1 .taken)))
 
 returns : tie.Need-returns
 returns c =

@@ -11,7 +11,6 @@ use lib.ListN.{getD}
 use lib.Dec.{eqb}
 use lib.Pow.{high as high-part}
 use lib.Count.{leadingZeros, leading-top}
-use Rattle.bitmap.specs.Sizes.{wordBits}
 use Rattle.bitmap.specs.Bits.{isSet, bit}
 use Rattle.bitmap.specs.Blocks.{from, member}
 use Rattle.bitmap.specs.Extents.{distance, nearest}

@@ -1,5 +1,5 @@
 -- The starts of extents as the bits of words: the available blocks, and longer extents from shorter ones.
-use Prim.Native.Nat.{ℕ, suc, _+_, _-_, _*_, _/_, _%_, _^_, _≤_, _<_}
+use Prim.Native.Nat.{ℕ, _+_, _-_, _*_, _/_, _%_, _^_, _≤_, _<_}
 use native.Mathlib.Omega.{arith}
 use mathlib.Core.Path.{_≡_, refl, sym, ap, ap₂, _∙_}
 use mathlib.Core.Logic.{⊎-elim}
@@ -7,9 +7,9 @@ use mathlib.Core.Bool.{Bool, true, false, _&&_, _||_, or-false}
 use mathlib.Core.List.{List}
 use lib.ListN.{getD}
 use lib.Bits.{bitAnd, bitOr, and-le-l}
-use lib.Pow.{pow-pos, shl-exact}
+use lib.Pow.{pow-pos}
 use native.Mathlib.Nat.{lt-of-le-of-lt}
-use Rattle.bitmap.specs.Sizes.{maxBlocks, wordBits, bitmapWords, wordsFor}
+use Rattle.bitmap.specs.Sizes.{wordBits, wordsFor}
 use Rattle.bitmap.specs.Bits.{isSet, bit, IsBitmap}
 use Rattle.bitmap.specs.Blocks.{isAvailable}
 use Rattle.bitmap.specs.Extents.{isStart}
@@ -18,7 +18,7 @@ use Rattle.bitmap.proofs.Laws.Bits.{below-or-from, bit-word}
 use Rattle.bitmap.proofs.Laws.Extents.{start-within, start-one, start-longer}
 use Rattle.available.specs.Available.{availableWord}
 use Rattle.available.proofs.Laws.Available.{isAvailableIn, availableIn-past, available-bits, availableWord-lt}
-use Rattle.extents.specs.Starts.{AreWords, AreZeros, HaveBits, AreStarts, NoneFrom, Narrowed}
+use Rattle.extents.specs.Starts.{AreWords, AreZeros, AreStarts, NoneFrom, Narrowed}
 use Rattle.extents.proofs.Laws.Words.{Renewed, renewed-before, renewed-from, renewed-are}
 
 -- ---- extents of one block

@@ -1,5 +1,5 @@
 -- `extents::nearest::nearest_start` meets its contract: of the start above the block and the one below it the nearer one.
-use Prim.Native.Nat.{ℕ, suc, _-_}
+use Prim.Native.Nat.{suc, _-_}
 use native.Mathlib.Nat.{not-le-of-lt}
 use native.Mathlib.Omega.{arith}
 use mathlib.Core.Path.{_≡_, sym, _∙_}
@@ -15,7 +15,7 @@ above : (c : tie.After-next-start)
     Above (a .starts .now) (a .blocks) (a .near) (c .next-start .result)
 above c =
     let a = c .before .args in
-    rw (c .next-start .ensures) (next-above (a .starts .now) (a .blocks) (a .near) (omega (arith, c .before .pre .1 .0)))
+    rw (c .next-start .ensures) (next-above (a .starts .now) (a .blocks) (a .near) (omega (arith, c .before .pre .0)))
 
 below : (c : tie.Else1)
     → let a = c .before .before .before .args in
@@ -35,7 +35,7 @@ returns : tie.Need-returns
 returns c =
     let s = c .before .before .before in
     let a = s .args in
-    only-above (a .starts .now) (s .pre .1 .0) (s .pre .1 .1 .1) (above (c .before .before))
+    only-above (a .starts .now) (s .pre .0) (s .pre .1 .none) (above (c .before .before))
     (end-none-below (a .starts .now) (a .near) (sym (c .before .end-before .ensures) ∙ c .if1 .taken))
 
 sub-below : tie.Need-sub-below
@@ -51,7 +51,7 @@ returns-2 : tie.Need-returns-2
 returns-2 c =
     let tested = c .before .before in
     let s = tested .before .before .before in
-    above-nearer (s .args .starts .now) (s .pre .1 .0) (s .pre .1 .1 .1) (above (tested .before .before)) (below tested) (c .before .if2 .taken) (c .if3 .taken)
+    above-nearer (s .args .starts .now) (s .pre .0) (s .pre .1 .none) (above (tested .before .before)) (below tested) (c .before .if2 .taken) (c .if3 .taken)
 
 sub-result : tie.Need-sub-result
 sub-result c = search needs
@@ -60,7 +60,7 @@ returns-3 : tie.Need-returns-3
 returns-3 c =
     let tested = c .before in
     let s = tested .before .before .before in
-    below-nearest (s .args .starts .now) (s .pre .1 .0) (s .pre .1 .1 .1) (above (tested .before .before)) (below tested)
+    below-nearest (s .args .starts .now) (s .pre .0) (s .pre .1 .none) (above (tested .before .before)) (below tested)
     (λ l. ⊎-elim (λ w. w .1 .left) (λ w. absurd (not-le-of-lt l (w .left))) (c .if2 .came))
 
 pub nearest-start-spec : {M : Type 1} → statement M

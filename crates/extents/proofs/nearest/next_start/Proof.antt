@@ -40,14 +40,14 @@ add-result : tie.Need-add-result Inv-loop μ-loop
 add-result c =
     let at-loop = c .before .before .before in
     let p = at-loop .before .pre in
-    omega (arith, next-found (start-at (p .1 .0) (p .1 .1)) (c .if1 .taken) .0)
+    omega (arith, next-found (start-at (p .are) (p .none)) (c .if1 .taken) .0)
 
 returns : tie.Need-returns Inv-loop μ-loop
 unfolding nextStart
 returns c =
     let at-loop = c .before .before .before in
     let p = at-loop .before .pre in
-    sym (ap (λ (l : List ℕ). getD l 0 (at-loop .before .args .blocks)) (at-loop .loop .inv ∙ next-found (start-at (p .1 .0) (p .1 .1)) (c .if1 .taken) .1))
+    sym (ap (λ (l : List ℕ). getD l 0 (at-loop .before .args .blocks)) (at-loop .loop .inv ∙ next-found (start-at (p .are) (p .none)) (c .if1 .taken) .1))
 
 add-block : tie.Need-add-block Inv-loop μ-loop
 add-block c = search needs
@@ -62,7 +62,7 @@ loop-again : tie.Need-loop-again Inv-loop μ-loop
 loop-again c =
     let at-loop = c .before .before .before in
     let p = at-loop .before .pre in
-    at-loop .loop .inv ∙ next-word (start-at (p .1 .0) (p .1 .1)) (c .if1 .left)
+    at-loop .loop .inv ∙ next-word (start-at (p .are) (p .none)) (c .if1 .left)
 
 returns-2 : tie.Need-returns-2 Inv-loop μ-loop
 unfolding nextStart

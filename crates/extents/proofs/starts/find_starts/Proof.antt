@@ -36,7 +36,7 @@ cast-words : tie.Need-cast-words Inv-loop μ-loop
 cast-words c = search needs
 
 loop-holds : tie.Need-loop-holds Inv-loop μ-loop
-loop-holds c = let p = c .before .before .before .pre in (search needs, p .1 .1 .1 .0, c .before .put-available .ensures)
+loop-holds c = let p = c .before .before .before .pre in (search needs, p .1 .1 .some, c .before .put-available .ensures)
 
 sub-left : tie.Need-sub-left Inv-loop μ-loop
 sub-left c = search needs
@@ -46,10 +46,13 @@ narrow-requires c κs =
     let l = c .before .before .before in
     let p = start l .pre in
     let s = shift-fits (c .before) in
-    let so = l .loop .inv .2 in (
-      omega (arith, l .before .words-for .ensures, p .1 .1 .0),
-      (omega (arith, s .1, s .2, p .1 .1 .1 .1 .0), (so .are, λ b h. starts-end _ _ _ _ (l .loop .inv .0) so b (omega (arith, l .before .words-for .ensures)))),
-    )
+    let so = l .loop .inv .2 in
+    record {
+      within = omega (arith, l .before .words-for .ensures, p .1 .1 .volume);
+      short = omega (arith, s .1, s .2, p .1 .1 .few);
+      are = so .are;
+      none = λ b h. starts-end _ _ _ _ (l .loop .inv .0) so b (omega (arith, l .before .words-for .ensures));
+    }
 
 add-run : tie.Need-add-run Inv-loop μ-loop
 add-run c = omega (arith, shift-fits (c .before .before .before) .2)

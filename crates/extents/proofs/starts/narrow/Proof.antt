@@ -22,7 +22,7 @@ abbrev μ-loop : tie.MeasureT-loop
 -- every word is still small
 small : (l : tie.At-loop Inv-loop μ-loop) (j : ℕ) → getD (l .loop .starts) j 0 < 2 ^ wordBits
 small l j =
-    let are = l .before .pre .1 .1 .0 in
+    let are = l .before .pre .are in
     renewed-are (l .loop .inv .1) (λ i h. narrowed-small (l .before .args .shift) (l .before .args .starts .now) are i) (are .small) .small j
 
 -- word k narrowed, as it is now
@@ -35,7 +35,7 @@ narrowed-now l =
     (renewed-from (l .loop .inv .1) (l .loop .k + 1) (omega arith))
 
 loop-holds : tie.Need-loop-holds Inv-loop μ-loop
-loop-holds c = (search needs, none-renewed _ _ (c .pre .1 .1 .0 .size))
+loop-holds c = (search needs, none-renewed _ _ (c .pre .are .size))
 
 mul-word : tie.Need-mul-word Inv-loop μ-loop
 mul-word c = search needs
@@ -85,14 +85,14 @@ loop-less c = search needs
 loop-again : tie.Need-loop-again Inv-loop μ-loop
 loop-again c =
     let l = c .before .before .before in
-    (search needs, renewed-more (l .loop .inv .1) _ (omega (arith, l .before .pre .0)) (narrowed-now l))
+    (search needs, renewed-more (l .loop .inv .1) _ (omega (arith, l .before .pre .within)) (narrowed-now l))
 
 returns : tie.Need-returns Inv-loop μ-loop
 returns c =
     let a = c .before .before .args in
     let p = c .before .before .pre in
     let all : c .before .loop .k ≡ a .words = omega (arith, c .before .loop .inv .0, c .loop-test .left) in
-    all-narrowed (a .starts .now) (p .1 .1 .0) (a .shift) (p .1 .0) (a .words) _ (p .1 .1 .1) (rw all at (c .before .loop .inv .1))
+    all-narrowed (a .starts .now) (p .are) (a .shift) (p .short) (a .words) _ (p .none) (rw all at (c .before .loop .inv .1))
 
 pub narrow-spec : {M : Type 1} → statement M
 narrow-spec =

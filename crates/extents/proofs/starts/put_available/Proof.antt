@@ -22,7 +22,7 @@ cast-whole : tie.Need-cast-whole Inv-loop μ-loop
 cast-whole c = search needs
 
 loop-holds : tie.Need-loop-holds Inv-loop μ-loop
-loop-holds c = (search needs, none-renewed _ _ (c .pre .1 .1 .1 .size))
+loop-holds c = (search needs, none-renewed _ _ (c .pre .1 .1 .zeros .size))
 
 mul-starts : tie.Need-mul-starts Inv-loop μ-loop
 mul-starts c = search needs
@@ -53,7 +53,7 @@ loop-again c =
     let l = c .before .before .before in
     let a = l .before .args in (
       search needs,
-      renewed-more (l .loop .inv .1) _ (omega (arith, l .before .pre .1 .1 .0))
+      renewed-more (l .loop .inv .1) _ (omega (arith, l .before .pre .1 .1 .volume))
           (available-whole (a .blocks) (a .sam .now) (a .«com» .now) (l .loop .k) (a .blocks - 32 * l .loop .k) refl (omega arith)),
     )
 
@@ -74,8 +74,8 @@ returns c =
     let end : l .loop .k ≡ a .blocks / 32 = omega (arith, l .loop .inv .0, c .before .before .loop-test .left) in
     let rest : a .blocks / 32 + 1 ≡ wordsFor (a .blocks) = omega (arith, c .before .if1 .taken) in
     let whole : Renewed (a .blocks / 32) (availableWord (a .blocks) (a .sam .now) (a .«com» .now)) (a .starts .now) (l .loop .starts) = rw end at (l .loop .inv .1) in
-    available-starts (a .blocks) (a .sam .now) (a .«com» .now) (p .0) (p .1 .0) (p .1 .1 .1)
-    (rw rest at (renewed-more whole (c .available-word .result) (omega (arith, p .1 .1 .0)) (c .available-word .ensures)))
+    available-starts (a .blocks) (a .sam .now) (a .«com» .now) (p .0) (p .1 .0) (p .1 .1 .zeros)
+    (rw rest at (renewed-more whole (c .available-word .result) (omega (arith, p .1 .1 .volume)) (c .available-word .ensures)))
 
 returns-2 : tie.Need-returns-2 Inv-loop μ-loop
 returns-2 c =
@@ -83,7 +83,7 @@ returns-2 c =
     let a = l .before .args in
     let p = l .before .pre in
     let all : l .loop .k ≡ wordsFor (a .blocks) = omega (arith, l .loop .inv .0, c .before .loop-test .left, c .if1 .left) in
-    available-starts (a .blocks) (a .sam .now) (a .«com» .now) (p .0) (p .1 .0) (p .1 .1 .1) (rw all at (l .loop .inv .1))
+    available-starts (a .blocks) (a .sam .now) (a .«com» .now) (p .0) (p .1 .0) (p .1 .1 .zeros) (rw all at (l .loop .inv .1))
 
 pub put-available-spec : {M : Type 1} → statement M
 put-available-spec =
