@@ -77,14 +77,7 @@ pub fn allocate_extent(
     let verdict = request.unless(start == blocks, Error::NoExtent);
     let mut answer = verdict.grant(0);
     if verdict.is_accepted() {
-        take_extent(
-            &mut com.words,
-            &mut own.tam.words,
-            list,
-            blocks,
-            start,
-            count,
-        );
+        take_extent(&mut com.words, &mut own.tam.words, list, start, count);
         slots[at] = own;
         answer = GrantAnswer::First(start);
     }

@@ -1,5 +1,5 @@
 -- Allocate extent: its verdict, what the search and taking the blocks need, and the first block.
-use Prim.Native.Nat.{ℕ, _≤_}
+use Prim.Native.Nat.{ℕ, _+_, _≤_}
 use native.Mathlib.Nat.{add-zero}
 use native.Mathlib.Omega.{arith}
 use mathlib.Core.Path.{_≡_, refl, sym, ap, _∙_}
@@ -9,7 +9,7 @@ use lib.ListN.{length, getD}
 use lib.Dec.{eqb}
 use borrow.Author.Tests.{eq-eqb, ne-eqb, eqb-true, eqb-false}
 use Rattle.bitmap.specs.Blocks.{isAvailable}
-use Rattle.bitmap.specs.Extents.{adjoining, nearest, starts}
+use Rattle.bitmap.specs.Extents.{nearest, starts}
 use Rattle.bitmap.proofs.Laws.Extents.{nearest-none, member-some}
 use Rattle.model_types.specs.declared.error.Error.the-variants.{NoExtent}
 use Rattle.model_types.specs.declared.memory.Slot.{Slot}
@@ -28,7 +28,7 @@ use Rattle.verdicts.specs.declared.verdict.Verdict.{Verdict}
 use Rattle.verdicts.specs.Verdicts.{verdict, isAccepted, unlessHolds, thenCauses}
 use Rattle.verdicts.proofs.Laws.Verdicts.{one-more, then-causes, then-passed, tested-last, accepted-none}
 use Rattle.available.specs.Take.{Takes}
-use Rattle.extents.specs.Take.{CanTakeExtent}
+use Rattle.extents.specs.Take.{CanTake, LiesIn, TakesExtent}
 use Rattle.extents.specs.Nearest.{CanSearch}
 use Rattle.allocate_extent.specs.Causes.{requestCauses}
 
@@ -92,28 +92,35 @@ module _ (memory : Memory) (s count near : ℕ) (list : List ℕ) where
 
   -- ---- the blocks
 
-  -- what was taken is the definition's extent
-  pub took-nearest : {start : ℕ} → start ≡ nearestStart memory count near → (tam₀ «com» tam after : List ℕ)
-      → Takes (memory .blocks) count (adjoining start count) (memory .com .words) tam₀ list «com» tam after
-      → Takes (memory .blocks) count (nearestExtent memory count near) (memory .com .words) tam₀ list «com» tam after
-  unfolding nearestExtent
-  took-nearest is tam₀ «com» tam after t = rw is at t
-
   module _ (a : AllocateExtentAccepted memory s count near list) where
     -- the first one is the start
     pub start-first : nearestStart memory count near ≡ getD (nearestExtent memory count near) 0 0
     start-first = sym (nearest-at memory count near 0 (a .some) ∙ add-zero (nearestStart memory count near))
 
-    pub can-take : {start : ℕ} (own : Slot) → own ≡ slotAt memory s → start ≡ nearestStart memory count near → Shaped memory → ValidParts memory
-        → CanTakeExtent (memory .blocks) start count (memory .com .words) (own .tam .words) list
-    can-take own read is shape parts =
-        rw (read, is)
-        (record {
-          volume = parts .few-blocks;
-          isCom = shape .com;
-          isTam = shape .tam s;
-          endOfCom = parts .com-below;
-          endOfTam = slot-below memory s parts;
-          within = nearest-extent memory count near (a .found) .within;
-          room = a .room;
-        })
+    module _ {start : ℕ} (is : start ≡ nearestStart memory count near) (parts : ValidParts memory) where
+      within : start + count ≤ memory .blocks
+      within = rw is (nearest-extent memory count near (a .found) .within)
+
+      -- bitmaps and list have room for them
+      pub can-take : CanTake start count list
+      can-take = record { within = omega (arith, within, parts .few-blocks); room = a .room }
+
+      lies : (own : Slot) → own ≡ slotAt memory s → Shaped memory → LiesIn (memory .blocks) start count (memory .com .words) (own .tam .words)
+      lies own read shape =
+          rw read
+          (record {
+            volume = parts .few-blocks;
+            isCom = shape .com;
+            isTam = shape .tam s;
+            endOfCom = parts .com-below;
+            endOfTam = slot-below memory s parts;
+            within = within;
+          })
+
+      -- what was taken is the definition's extent
+      pub took-nearest : (own : Slot) → own ≡ slotAt memory s → Shaped memory
+          → («com» tam after : List ℕ)
+          → TakesExtent start count (memory .com .words) (own .tam .words) list «com» tam after
+          → Takes (memory .blocks) count (nearestExtent memory count near) (memory .com .words) (own .tam .words) list «com» tam after
+      unfolding nearestExtent
+      took-nearest own read shape «com» tam after t = rw is at (t (memory .blocks) (lies own read shape))

@@ -141,11 +141,8 @@ take-extent-requires : tie.Need-take-extent-requires
 take-extent-requires c κs =
     let accepted = c .before .before .before in
     let t = told accepted in
-    let after-open = opened (requested (tested (accepted .before))) in
-    let b = entered after-open in
-    can-take (b .args .memory) (b .args .slot) (b .args .count) (b .args .near) (b .args .list .now) t _
-    (own-slot (b .args .memory) _ (b .args .slot) (shape-at b) (after-open .before .before .slot-index .ensures) (t .ready .below))
-    (accepted-start accepted) (shape-at b) (valid-parts _ (t .ready .is-valid))
+    let b = entered (opened (requested (tested (accepted .before)))) in
+    can-take (b .args .memory) (b .args .slot) (b .args .count) (b .args .near) (b .args .list .now) t (accepted-start accepted) (valid-parts _ (t .ready .is-valid))
 
 mul-slots : tie.Need-mul-slots
 mul-slots c = search needs
@@ -173,8 +170,9 @@ returns c =
     (λ w.
     let at : tie.Then1 = record { before = accepted; if1 = w .0 } in
     let t = told at in
-    let read = own-slot (a .memory) _ (a .slot) (shape-at (entered after-open)) looked (t .ready .below) in
-    let taken = took-nearest (a .memory) (a .slot) (a .count) (a .near) (a .list .now) (accepted-start at) _ _ _ _ (w .4 .ensures) in (
+    let shape = shape-at (entered after-open) in
+    let read = own-slot (a .memory) _ (a .slot) shape looked (t .ready .below) in
+    let taken = took-nearest (a .memory) (a .slot) (a .count) (a .near) (a .list .now) t (accepted-start at) (valid-parts _ (t .ready .is-valid)) _ read shape _ _ _ (w .4 .ensures) in (
       w .10
           ∙ ap GrantAnswer.First (accepted-start at ∙ start-first (a .memory) (a .slot) (a .count) (a .near) (a .list .now) t)
           ∙ first-answered error _ (accepted-none error is test (w .0 .taken)),

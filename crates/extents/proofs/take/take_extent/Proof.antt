@@ -1,31 +1,36 @@
 -- `extents::take::take_extent` meets its contract. The loop's invariant: the first n blocks of the extent are taken.
-use Prim.Native.Nat.{_-_, _≤_}
+use Prim.Native.Nat.{ℕ, _-_, _≤_}
 use native.Mathlib.Omega.{arith}
 use mathlib.Core.Path.{_≡_, refl, _∙_}
 use lib.ListN.{length, length-set}
 use borrow.Author.Needs.{needs}
+use Rattle.extents.specs.Take.{LiesIn}
 use Rattle.extents.proofs.Laws.Take.{TakenTo, taken-none, taken-more, taken-all}
 use Rattle.extents.proofs.take.take_extent.Statement.{statement}
 use Rattle.extents.proofs.take.take_extent.Tie as tie
 
 abbrev Inv-loop : tie.InvT-loop
-Inv-loop com₀ tam₀ list₀ blocks start count n₀ «com» tam list n =
-    (n ≤ count) × (length list ≡ length list₀) × TakenTo blocks start count com₀ tam₀ list₀ n «com» tam list
+Inv-loop com₀ tam₀ list₀ start count n₀ «com» tam list n =
+    (n ≤ count)
+    × (length list ≡ length list₀)
+    × ((m : ℕ) → LiesIn m start count com₀ tam₀ → TakenTo m start count com₀ tam₀ list₀ n «com» tam list)
 
 abbrev μ-loop : tie.MeasureT-loop
-μ-loop com₀ tam₀ list₀ blocks start count n₀ «com» tam list n = count - n
+μ-loop com₀ tam₀ list₀ start count n₀ «com» tam list n = count - n
 
 loop-holds : tie.Need-loop-holds Inv-loop μ-loop
-loop-holds c = let p = c .before .pre in (search needs, refl, taken-none (c .before .args .start) (c .before .args .count) (p .volume) (p .isCom) (p .isTam) (p .endOfCom) (p .endOfTam))
+loop-holds c =
+    let a = c .before .args in
+    (search needs, refl, λ m lies. taken-none (a .start) (a .count) (lies .volume) (lies .isCom) (lies .isTam) (lies .endOfCom) (lies .endOfTam))
 
 add-block : tie.Need-add-block Inv-loop μ-loop
-add-block c = let p = c .before .before .before .pre in omega (arith, p .within, p .volume)
+add-block c = omega (arith, c .before .before .before .pre .within)
 
 put-requires : tie.Need-put-requires Inv-loop μ-loop
-put-requires c κs = let p = c .before .before .before .before .pre in omega (arith, p .within, p .volume)
+put-requires c κs = omega (arith, c .before .before .before .before .pre .within)
 
 put-requires-2 : tie.Need-put-requires-2 Inv-loop μ-loop
-put-requires-2 c κs = let p = c .before .before .before .before .before .before .pre in omega (arith, p .within, p .volume)
+put-requires-2 c κs = omega (arith, c .before .before .before .before .before .before .pre .within)
 
 cast-list : tie.Need-cast-list Inv-loop μ-loop
 cast-list c = search needs
@@ -48,11 +53,12 @@ loop-again : tie.Need-loop-again Inv-loop μ-loop
 loop-again c =
     let at-loop = c .before .before .before .before .before in
     let start = at-loop .before .before in
-    let p = start .pre in (
+    let a = start .args in (
       search needs,
       length-set (at-loop .loop .list) (at-loop .loop .n) _ ∙ at-loop .loop .inv .1,
-      rw (c .before .before .put .ensures, c .put2 .ensures)
-          (taken-more (start .args .start) (start .args .count) (p .volume) (p .within) (at-loop .loop .inv .2) (omega arith) (omega (arith, p .room))),
+      λ m lies.
+          rw (c .before .before .put .ensures, c .put2 .ensures)
+          (taken-more (a .start) (a .count) (lies .volume) (lies .within) (at-loop .loop .inv .2 m lies) (omega arith) (omega (arith, start .pre .room))),
     )
 
 same-length : tie.Need-same-length Inv-loop μ-loop
@@ -60,9 +66,9 @@ same-length c = c .before .loop .inv .1
 
 returns : tie.Need-returns Inv-loop μ-loop
 returns c =
-    let start = c .before .before .before in
-    let p = start .pre in
-    taken-all (start .args .start) (start .args .count) (p .volume) (p .within) (c .before .loop .inv .2) (omega (arith, c .before .loop .inv .0))
+    let a = c .before .before .before .args in
+    λ m lies.
+    taken-all (a .start) (a .count) (lies .volume) (lies .within) (c .before .loop .inv .2 m lies) (omega (arith, c .before .loop .inv .0, c .loop-test .left))
 
 pub take-extent-spec : {M : Type 1} → statement M
 take-extent-spec =
