@@ -16,16 +16,16 @@ use Rattle.bitmap.proofs.Laws.Blocks.{allBelow-at, allBelow-all, member
 
 -- ---- the blocks of an extent
 
-pub length-adjoining : (p n : ℕ) → length (adjoining p n) ≡ n
-unfolding adjoining
-length-adjoining p zero = refl
-length-adjoining p (suc n) = ap suc (length-adjoining (suc p) n)
-
 pub getD-adjoining : (p n i d : ℕ) → i < n → getD (adjoining p n) i d ≡ p + i
 unfolding adjoining
 getD-adjoining p zero i d h = absurd (not-suc-le-zero h)
 getD-adjoining p (suc n) zero d h = sym (add-zero p)
 getD-adjoining p (suc n) (suc i) d h = getD-adjoining (suc p) n i d (le-of-suc-le-suc h) ∙ omega arith
+
+pub length-adjoining : (p n : ℕ) → length (adjoining p n) ≡ n
+unfolding adjoining
+length-adjoining p zero = refl
+length-adjoining p (suc n) = ap suc (length-adjoining (suc p) n)
 
 pub member-adjoining : (b p n : ℕ) → member b (adjoining p n) ≡ true → (p ≤ b) × (b < p + n)
 unfolding adjoining member
