@@ -32,8 +32,8 @@ fn narrow(starts: &mut [u32; 129], words: usize, shift: u32)
     }
 }
 
-// Where extents of so many blocks start, put into words of zeros. By doubling: an extent of run + shift blocks starts where
-// extents of run blocks start, there and shift blocks above, and shift may be anything up to run.
+// Where extents of so many blocks start, put into words of zeros. By doubling: an extent of size + shift blocks starts where
+// extents of size blocks start, there and shift blocks above, and shift may be anything up to size.
 pub(crate) fn find_starts(
     sam: &[u32; 128],
     com: &[u32; 128],
@@ -48,11 +48,11 @@ pub(crate) fn find_starts(
 {
     put_available(sam, com, blocks, starts);
     let words = Bitmap::words_for(blocks) as usize;
-    let mut run = 1;
-    while run < count {
-        let left = count - run;
-        let shift = if left < run { left } else { run };
+    let mut size = 1;
+    while size < count {
+        let left = count - size;
+        let shift = if left < size { left } else { size };
         narrow(starts, words, shift);
-        run += shift;
+        size += shift;
     }
 }

@@ -1,21 +1,7 @@
 //! Each cause of commit cost, with all left as it was, and the first cause where several hold.
 
 use crate::state::{assert_accepted, assert_refused, State};
-use reference::{commit, commit_cost, Error};
-
-/// A busy state with a commit of slot 2 pending.
-fn pending() -> State {
-    let mut state = State::busy();
-    assert_eq!(commit(&mut state.memory, 2), Ok(8));
-    state
-}
-
-/// Not valid, and with work pending.
-fn invalid() -> State {
-    let mut state = pending();
-    state.memory.slots[7].tam.words[0] = 1;
-    state
-}
+use reference::{commit_cost, Error};
 
 fn refused(state: &State, error: Error, slot: u32, count: u32) {
     assert_refused(state, error, |s| commit_cost(&s.memory, slot, count));
@@ -27,7 +13,7 @@ fn accepted(state: &State, slot: u32, count: u32) {
 
 #[test]
 fn cause_1_memory_not_valid() {
-    for state in State::not_valid().into_iter().chain([invalid()]) {
+    for state in State::not_valid().into_iter().chain([State::not_valid_and_pending()]) {
         for slot in [0, 1, 2, 8, u32::MAX] {
             for count in [0, 1, 64, 65, u32::MAX] {
                 refused(&state, Error::InvalidMemory, slot, count);
@@ -38,7 +24,7 @@ fn cause_1_memory_not_valid() {
 
 #[test]
 fn cause_8_work_pending() {
-    let mut state = pending();
+    let mut state = State::pending();
     let all_refused = |state: &State| {
         for slot in [0, 1, 2, 8, u32::MAX] {
             for count in [0, 1, 26, 65, u32::MAX] {
@@ -51,7 +37,7 @@ fn cause_8_work_pending() {
     all_refused(&state);
     assert_eq!(state.crash_and_open(), 3);
     all_refused(&state);
-    let mut state = pending();
+    let mut state = State::pending();
     state.stores(8);
     accepted(&state, 1, 0);
 }

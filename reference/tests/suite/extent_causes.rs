@@ -1,26 +1,12 @@
 //! Each cause of allocate extent, with all left as it was, and the first cause where several hold.
 
 use crate::state::{assert_accepted, assert_refused, State};
-use reference::{allocate_extent, commit, Error};
+use reference::{allocate_extent, Error};
 
 /// Slots, counts and near blocks for causes that come before all of theirs.
 const SLOTS: [u32; 5] = [0, 1, 2, 8, u32::MAX];
 const COUNTS: [u32; 5] = [0, 1, 64, 65, u32::MAX];
 const NEARS: [u32; 4] = [0, 99, 100, u32::MAX];
-
-/// A busy state with a commit of slot 2 pending.
-fn pending() -> State {
-    let mut state = State::busy();
-    assert_eq!(commit(&mut state.memory, 2), Ok(8));
-    state
-}
-
-/// Not valid, and with work pending.
-fn invalid() -> State {
-    let mut state = pending();
-    state.memory.slots[7].tam.words[0] = 1;
-    state
-}
 
 fn refused(state: &State, error: Error, slot: u32, count: u32, near: u32) {
     assert_refused(state, error, |s| {
@@ -44,14 +30,14 @@ fn refused_with_any(state: &State, error: Error, slot: u32) {
 
 #[test]
 fn cause_1_memory_not_valid() {
-    for state in State::not_valid().into_iter().chain([invalid()]) {
+    for state in State::not_valid().into_iter().chain([State::not_valid_and_pending()]) {
         SLOTS.into_iter().for_each(|slot| refused_with_any(&state, Error::InvalidMemory, slot));
     }
 }
 
 #[test]
 fn cause_8_work_pending() {
-    let mut state = pending();
+    let mut state = State::pending();
     let all_refused = |state: &State| {
         SLOTS.into_iter().for_each(|slot| refused_with_any(state, Error::WorkPending, slot));
     };
@@ -60,7 +46,7 @@ fn cause_8_work_pending() {
     all_refused(&state);
     assert_eq!(state.crash_and_open(), 3);
     all_refused(&state);
-    let mut state = pending();
+    let mut state = State::pending();
     state.stores(8);
     accepted(&state, 1, 1, 0);
 }
@@ -163,8 +149,8 @@ fn the_first_cause_where_all_later_ones_hold() {
         state.list.truncate(places);
         refused(&state, error, slot, count, near);
     };
-    ask(invalid(), Error::InvalidMemory, 0, (8, 65, 100));
-    ask(pending(), Error::WorkPending, 0, (8, 65, 100));
+    ask(State::not_valid_and_pending(), Error::InvalidMemory, 0, (8, 65, 100));
+    ask(State::pending(), Error::WorkPending, 0, (8, 65, 100));
     ask(State::busy(), Error::SlotNumber, 0, (8, 65, 100));
     ask(State::busy(), Error::SlotIdle, 0, (0, 65, 100));
     ask(State::busy(), Error::SlotPrecommitted, 0, (2, 65, 100));

@@ -51,6 +51,20 @@ impl State {
         State { memory: opened.memory, disk, list: vec![UNWRITTEN; MAX_COUNT as usize] }
     }
 
+    /// A busy state with a commit of slot 2 pending.
+    pub fn pending() -> State {
+        let mut state = State::busy();
+        assert_eq!(commit(&mut state.memory, 2), Ok(8));
+        state
+    }
+
+    /// Not valid, and with work pending.
+    pub fn not_valid_and_pending() -> State {
+        let mut state = State::pending();
+        state.memory.slots[7].tam.words[0] = 1;
+        state
+    }
+
     /// 100 blocks; 70 are allocated; slot 1 is open and has touched both kinds, slot 2 is
     /// precommitted. 25 blocks are available.
     pub fn busy() -> State {

@@ -1,4 +1,4 @@
--- `extents::starts::find_starts` meets its contract. The loop's invariant: the starts are those of extents of `run` blocks.
+-- `extents::starts::find_starts` meets its contract. The loop's invariant: the starts are those of extents of `size` blocks.
 use Prim.Native.Nat.{_+_, _-_, _≤_}
 use native.Mathlib.Omega.{arith}
 use mathlib.Core.Path.{_≡_}
@@ -10,18 +10,18 @@ use Rattle.extents.proofs.starts.find_starts.Statement.{statement}
 use Rattle.extents.proofs.starts.find_starts.Tie as tie
 
 abbrev Inv-loop : tie.InvT-loop
-Inv-loop sam «com» blocks count starts₀ words run₀ starts run = (1 ≤ run) × (run ≤ count) × AreStarts blocks sam «com» run starts
+Inv-loop sam «com» blocks count starts₀ words size₀ starts size = (1 ≤ size) × (size ≤ count) × AreStarts blocks sam «com» size starts
 
 abbrev μ-loop : tie.MeasureT-loop
-μ-loop sam «com» blocks count starts₀ words run₀ starts run = count - run
+μ-loop sam «com» blocks count starts₀ words size₀ starts size = count - size
 
 abbrev start : tie.At-loop Inv-loop μ-loop → tie.Start Inv-loop μ-loop
 start l = l .before .before .before .before
 
--- the shift is at least 1, and neither more than run nor than what is left
+-- the shift is at least 1, and neither more than size nor than what is left
 shift-fits : (c : tie.Joined1 Inv-loop μ-loop)
     → let l = c .before .before in
-    (1 ≤ c .if1 .shift) × (c .if1 .shift ≤ l .loop .run) × (l .loop .run + c .if1 .shift ≤ start l .args .count)
+    (1 ≤ c .if1 .shift) × (c .if1 .shift ≤ l .loop .size) × (l .loop .size + c .if1 .shift ≤ start l .args .count)
 shift-fits c =
     let l = c .before .before in
     ⊎-elim (λ w. (omega (arith, w), omega (arith, w), omega (arith, w))) (λ w. (omega (arith, w), omega (arith, w), omega (arith, w))) (c .if1 .came)
@@ -54,8 +54,8 @@ narrow-requires c κs =
       none = λ b h. starts-end _ _ _ _ (l .loop .inv .0) so b (omega (arith, l .before .words-for .ensures));
     }
 
-add-run : tie.Need-add-run Inv-loop μ-loop
-add-run c = omega (arith, shift-fits (c .before .before .before) .2)
+add-size : tie.Need-add-size Inv-loop μ-loop
+add-size c = omega (arith, shift-fits (c .before .before .before) .2)
 
 loop-less : tie.Need-loop-less Inv-loop μ-loop
 loop-less c = let s = shift-fits (c .before .before .before) in omega (arith, s .0, s .2)
@@ -65,12 +65,12 @@ loop-again c =
     let l = c .before .before .before .before .before in
     let a = start l .args in
     let s = shift-fits (c .before .before .before) in
-    (omega (arith, s .0), s .2, longer (a .blocks) (l .loop .run) _ (a .sam .now) (a .«com» .now) (s .1) (l .loop .inv .2) (c .before .narrow .ensures))
+    (omega (arith, s .0), s .2, longer (a .blocks) (l .loop .size) _ (a .sam .now) (a .«com» .now) (s .1) (l .loop .inv .2) (c .before .narrow .ensures))
 
 returns : tie.Need-returns Inv-loop μ-loop
 returns c =
     let l = c .before in
-    let all : l .loop .run ≡ start l .args .count = omega (arith, l .loop .inv .1, c .loop-test .left) in
+    let all : l .loop .size ≡ start l .args .count = omega (arith, l .loop .inv .1, c .loop-test .left) in
     rw all at (l .loop .inv .2)
 
 pub find-starts-spec : {M : Type 1} → statement M
@@ -85,7 +85,7 @@ find-starts-spec =
     loop-holds
     sub-left
     narrow-requires
-    add-run
+    add-size
     loop-less
     loop-again
     returns)
