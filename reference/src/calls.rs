@@ -1,6 +1,5 @@
 //! The allocator's calls. Each tests the causes that name it in document 01's table, or those that
-//! document 02 gives commit cost and allocate extent, in number order, and a refused call changes
-//! nothing.
+//! document 02 gives it, in number order, and a refused call changes nothing.
 
 mod allocate;
 mod allocate_extent;
@@ -21,4 +20,4 @@ pub use format::format;
 pub use open::{open, Opened};
 pub use status::{status, Status};
 pub use store::store;
-pub use transaction::{commit, precommit, rollback, start};
+pub use transaction::{commit, drop, precommit, revoke, start};

@@ -43,6 +43,14 @@ struct Phase {
     interrupted_in: u32,
 }
 
+/// What the transaction of a slot is still to do.
+#[derive(Clone, Copy, Default)]
+struct Plan {
+    touches_left: u32,
+    /// It touches little and is often rolled back.
+    is_short: bool,
+}
+
 /// An endless history. Its first line formats the volume.
 pub struct History {
     random: Random,
@@ -52,7 +60,7 @@ pub struct History {
     formatted: bool,
     /// The disk was formatted under the memory.
     disk_is_foreign: bool,
-    touches_left: [u32; Memory::SLOTS],
+    plans: [Plan; Memory::SLOTS],
     /// The number of stores done at which the pending work is interrupted.
     interrupt_at: u32,
 }
@@ -78,7 +86,7 @@ impl History {
             bench: Bench::new(),
             formatted: false,
             disk_is_foreign: false,
-            touches_left: [0; Memory::SLOTS],
+            plans: [Plan::default(); Memory::SLOTS],
             interrupt_at: 0,
         }
     }

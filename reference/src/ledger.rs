@@ -58,7 +58,8 @@ impl Ledger {
                 call.listed.iter().for_each(|block| self.taken[slot].insert(*block))
             }
             Operation::Deallocate => self.freed[slot].insert(call.block),
-            Operation::Rollback => self.forget(slot),
+            // Either is a rollback (document 02, job 5).
+            Operation::Drop | Operation::Revoke => self.forget(slot),
             Operation::Commit => {
                 if self.changed_words(slot) != 0 {
                     self.under_count = Some(CommitUnderCount { slot, stores: 0 });

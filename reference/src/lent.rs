@@ -1,7 +1,7 @@
 //! What a program lends its calls, and the call that a bench line in form asks for.
 
 use crate::calls::{
-    allocate, commit, deallocate, format, open, precommit, rollback, start, status, store,
+    allocate, commit, deallocate, drop, format, open, precommit, revoke, start, status, store,
 };
 use crate::error::Error;
 use crate::line::{Line, Operation};
@@ -27,7 +27,8 @@ impl Lent<'_> {
             Operation::Deallocate => deallocate(memory, slot, number).map(|()| 0),
             Operation::Precommit => precommit(memory, slot).map(|()| 0),
             Operation::Commit => commit(memory, slot),
-            Operation::Rollback => rollback(memory, slot).map(|()| 0),
+            Operation::Drop => drop(memory, slot).map(|()| 0),
+            Operation::Revoke => revoke(memory, slot).map(|()| 0),
             Operation::Store => store(memory, disk),
             Operation::Status => status(memory).map(|status| status.allocated),
             Operation::Crash => {

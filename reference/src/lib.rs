@@ -1,5 +1,5 @@
-//! A second block allocator, written from document 01 and from jobs 1, 2 and 4 of document 02 alone,
-//! against which another one is compared.
+//! A second block allocator, written from document 01 and from jobs 1, 2, 4 and 5 of document 02
+//! alone, against which another one is compared.
 
 mod agreement;
 mod bitmap;
@@ -34,8 +34,8 @@ pub mod test_line;
 pub use bitmap::{majority, Bitmap};
 pub use block_set::BlockSet;
 pub use calls::{
-    allocate, allocate_extent, commit, commit_cost, deallocate, format, open, precommit, rollback,
-    start, status, store, Opened, Status, MAX_COUNT,
+    allocate, allocate_extent, commit, commit_cost, deallocate, drop, format, open, precommit,
+    revoke, start, status, store, Opened, Status, MAX_COUNT,
 };
 pub use disk::{BITMAP_START, BLOCKS_POSITION, DISK_WORDS, LOG_LENGTH_POSITION, LOG_START};
 pub use error::Error;

@@ -14,14 +14,15 @@ pub enum Operation {
     Deallocate,
     Precommit,
     Commit,
-    Rollback,
+    Drop,
+    Revoke,
     Store,
     Status,
     Crash,
 }
 
 impl Operation {
-    pub const ALL: [Operation; 11] = [
+    pub const ALL: [Operation; 12] = [
         Operation::Format,
         Operation::Open,
         Operation::Start,
@@ -29,7 +30,8 @@ impl Operation {
         Operation::Deallocate,
         Operation::Precommit,
         Operation::Commit,
-        Operation::Rollback,
+        Operation::Drop,
+        Operation::Revoke,
         Operation::Store,
         Operation::Status,
         Operation::Crash,
@@ -45,7 +47,8 @@ impl Operation {
             Operation::Deallocate => "free",
             Operation::Precommit => "pre",
             Operation::Commit => "commit",
-            Operation::Rollback => "roll",
+            Operation::Drop => "drop",
+            Operation::Revoke => "revoke",
             Operation::Store => "store",
             Operation::Status => "stat",
             Operation::Crash => "cut",

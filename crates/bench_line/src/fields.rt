@@ -96,10 +96,11 @@ pub(crate) fn parse_op(line: &[u8]) -> Parsed
     match first {
         b'a' => op_else(line, Op::Allocate, b"alloc seat=", none),
         b'c' => parse_c(line),
+        b'd' => op_else(line, Op::Drop, b"drop seat=", none),
         b'f' => parse_f(line),
         b'o' => op_else(line, Op::Open, b"open seat=", none),
         b'p' => op_else(line, Op::Precommit, b"pre seat=", none),
-        b'r' => op_else(line, Op::Rollback, b"roll seat=", none),
+        b'r' => op_else(line, Op::Revoke, b"revoke seat=", none),
         b's' => parse_s(line),
         _ => none,
     }

@@ -10,12 +10,13 @@ use bench_answer::print_answer;
 use bench_line::parse;
 use commit::commit;
 use deallocate::deallocate;
+use drop::drop;
 use model_types::error::Error;
 use model_types::line::Op;
 use model_types::line::Parsed;
 use model_types::memory::Memory;
 use precommit::precommit;
-use rollback::rollback;
+use revoke::revoke;
 use start::start;
 use status::status;
 use store::store;
@@ -106,8 +107,14 @@ pub fn answer_lines(
                         code = answer.number();
                         value = answer.value();
                     }
-                    Op::Rollback => {
-                        let done = rollback(memory, slot);
+                    Op::Drop => {
+                        let done = drop(memory, slot);
+                        memory = done.memory;
+                        let answer = done.answer;
+                        code = answer.number();
+                    }
+                    Op::Revoke => {
+                        let done = revoke(memory, slot);
                         memory = done.memory;
                         let answer = done.answer;
                         code = answer.number();

@@ -27,13 +27,15 @@ use Rattle.model.specs.Calls.Precommit.{precommitError, precommitting, precommi
 use Rattle.model.specs.Calls.Format.{formatDisk}
 use Rattle.model.specs.Calls.Committing.{commitError, committing, commitAnswer, commitMemory}
 use Rattle.model.specs.Calls.CommitCost.{commitCostError, touchedBlocks, costFor, commitCost, commitCostAnswer}
-use Rattle.model.specs.Calls.Rollback.{rollbackError, rolledBack, rollbackMemory}
+use Rattle.model.specs.Rollback.{rolledBack}
+use Rattle.model.specs.Calls.Drop.{dropError, dropMemory}
+use Rattle.model.specs.Calls.Revoke.{revokeError, revokeMemory}
 use Rattle.model.specs.Calls.Storing.{storeError, advanced, storeMemory}
 use Rattle.model.proofs.Laws.Numbers.{numberOf, done-number, grant-number}
 use Rattle.model.proofs.Laws.Valid.{ValidParts, valid-parts}
 use Rattle.model.proofs.Laws.Pending.{commit-parts, precommitted-active, precommitted-below}
-use Rattle.model.proofs.Laws.Accepted.{Ready, start-accepted, deallocate-accepted, precommit-accepted, CommitAccepted, commit-accepted, rollback-accepted, CommitCostAccepted, commit-cost-accepted}
-use Rattle.model.specs.Outcome.{Call, outcome, openCall, startCall, allocateCall, allocateExtentCall, deallocateCall, precommitCall, commitCall, rollbackCall, storeCall, statusCall, commitCostCall, crashCall}
+use Rattle.model.proofs.Laws.Accepted.{Ready, start-accepted, deallocate-accepted, precommit-accepted, CommitAccepted, commit-accepted, RollbackAccepted, drop-rolls-back, revoke-rolls-back, CommitCostAccepted, commit-cost-accepted}
+use Rattle.model.specs.Outcome.{Call, outcome, openCall, startCall, allocateCall, allocateExtentCall, deallocateCall, precommitCall, commitCall, dropCall, revokeCall, storeCall, statusCall, commitCostCall, crashCall}
 use Rattle.crash_safety.specs.World.{World, step, run, begin}
 use Rattle.crash_safety.specs.InOrder.{InUse}
 use Rattle.crash_safety.specs.CommitCost.{touchesFor, touchesIn, SameUse, CommitCostKeptInUse, CommitCostHolds}
@@ -82,11 +84,18 @@ module _ (memory : Memory) (s : ℕ) (eight : length (memory .slots) ≡ slotCou
       never-touches memory (precommitting memory t) s (precommitError memory t)
       (λ e. let a = precommit-accepted memory t e in precommitting-touches memory t s (there t (a .ready)) (a .active))
 
-  rollback-touches : (t : ℕ) → Touches memory (rollbackMemory memory t) s 0
-  unfolding rollbackMemory
-  rollback-touches t =
-      never-touches memory (rolledBack memory t) s (rollbackError memory t)
-      (λ e. rolled-back-touches memory t s (there t (rollback-accepted memory t e .ready)))
+  rolling-touches : (t : ℕ) (error : Option Error) → (error ≡ none → RollbackAccepted memory t)
+      → Touches memory (unlessRefused error (rolledBack memory t) memory) s 0
+  rolling-touches t error accepted =
+      never-touches memory (rolledBack memory t) s error (λ e. rolled-back-touches memory t s (there t (accepted e .ready)))
+
+  drop-touches : (t : ℕ) → Touches memory (dropMemory memory t) s 0
+  unfolding dropMemory
+  drop-touches t = rolling-touches t (dropError memory t) (drop-rolls-back memory t)
+
+  revoke-touches : (t : ℕ) → Touches memory (revokeMemory memory t) s 0
+  unfolding revokeMemory
+  revoke-touches t = rolling-touches t (revokeError memory t) (revoke-rolls-back memory t)
 
   -- a call that grants blocks
   grant-touches : (t count : ℕ) (blocks : List ℕ) (error : Option Error) → (error ≡ none → Grants memory t count blocks)
@@ -189,7 +198,8 @@ module _ (s : ℕ) (w : World) (i : Invariant w) (c : InUse w) where
   step-touches (startCall t) no-open no-crash = none-told (startCall t) refl (start-touches (w .memory) s eight parts t)
   step-touches (precommitCall t) no-open no-crash = none-told (precommitCall t) refl (precommit-touches (w .memory) s eight parts t)
   step-touches (commitCall t) no-open no-crash = none-told (commitCall t) refl (commit-touches (w .memory) s eight parts t)
-  step-touches (rollbackCall t) no-open no-crash = none-told (rollbackCall t) refl (rollback-touches (w .memory) s eight parts t)
+  step-touches (dropCall t) no-open no-crash = none-told (dropCall t) refl (drop-touches (w .memory) s eight parts t)
+  step-touches (revokeCall t) no-open no-crash = none-told (revokeCall t) refl (revoke-touches (w .memory) s eight parts t)
   step-touches storeCall no-open no-crash = none-told storeCall refl (store-touches (w .memory) s eight parts (w .disk))
   step-touches statusCall no-open no-crash = none-told statusCall refl (record { few = omega arith; volume = refl })
   step-touches (commitCostCall t count) no-open no-crash = none-told (commitCostCall t count) refl (record { few = omega arith; volume = refl })

@@ -20,7 +20,9 @@ use Rattle.model.specs.Calls.Deallocate.{deallocateError, freeing, deallocateAn
 use Rattle.model.specs.Calls.Format.{formatError, formatted, formatAnswer, formatDisk}
 use Rattle.model.specs.Calls.Opening.{openError, recoveryDue, recoveryPending, opened, openAnswer, openMemory}
 use Rattle.model.specs.Calls.Precommit.{precommitError, precommitting, precommitAnswer, precommitMemory}
-use Rattle.model.specs.Calls.Rollback.{rollbackError, rolledBackCom, rolledBack, rollbackAnswer, rollbackMemory}
+use Rattle.model.specs.Rollback.{rolledBackCom, rolledBack}
+use Rattle.model.specs.Calls.Drop.{dropError, dropAnswer, dropMemory}
+use Rattle.model.specs.Calls.Revoke.{revokeError, revokeAnswer, revokeMemory}
 use Rattle.model.specs.Calls.Start.{startError, started, startAnswer, startMemory}
 use Rattle.model.specs.Calls.Status.{statusError, counts as statusCounts, statusAnswer, allocated, activeSlots}
 use Rattle.model.specs.Calls.Storing.{storeError, stillDue, advanced, nextStored, storeAnswer, storeMemory, storeDisk}
@@ -30,7 +32,7 @@ use Rattle.model.specs.Pending.{storesDone, storesDue, oneMoreDone, finished}
 use Rattle.model.specs.Commit.{committedSam, entriesOf, changedOf, commitDue, refreshed, committed}
 use Rattle.model.specs.Disk.{lengthIn, entriesIn, logEntries, entriesValid, logValid, durable, dueStores, entriesAgree, recoveryMatches, diskMatches}
 use Rattle.model.specs.First.{firstOr, first, unlessRefused}
-use Rattle.model.specs.Outcome.{outcome, Call, Outcome, openCall, startCall, allocateCall, allocateExtentCall, deallocateCall, precommitCall, commitCall, rollbackCall, storeCall, statusCall, commitCostCall, crashCall}
+use Rattle.model.specs.Outcome.{outcome, Call, Outcome, openCall, startCall, allocateCall, allocateExtentCall, deallocateCall, precommitCall, commitCall, dropCall, revokeCall, storeCall, statusCall, commitCostCall, crashCall}
 use Rattle.model.specs.Stores.{writes, changesFrom, logStores, checkpointWith, journalWith, checkpointStores, commitStores}
 use Rattle.model.specs.Valid.{touched, sameWords, allSlots, slotValid, touches, touchesAgree, isQuiet, pendingValid, valid}
 use Rattle.crash_safety.specs.Ledger.{emptied, hasWord, wordsFrom, setsWords, without, takes, frees, counts, commits, stores, entered, enter, enterAll, Ledger, Sets, noSets, ledgerOf, setsOf, holders, takers}
@@ -131,9 +133,9 @@ borrowed =
     ∷ commitCostCall 7 3
     ∷ []
 
--- and rolls back; slot 1 then takes the same blocks
-rolledBackThere : List Call
-rolledBackThere = borrowed ++ rollbackCall 7 ∷ startCall 1 ∷ allocateCall 1 3 list ∷ statusCall ∷ []
+-- and drops them, after a revoke that is refused; slot 1 then takes the same blocks
+dropped : List Call
+dropped = borrowed ++ revokeCall 7 ∷ dropCall 7 ∷ startCall 1 ∷ allocateCall 1 3 list ∷ statusCall ∷ []
 
 -- slot 7 takes an extent of one block, the block it names, and of the two next to it the lower one; then it is refused two that
 -- adjoin, and one near a block that isn't there
@@ -149,9 +151,13 @@ adjoined =
     ∷ allocateExtentCall 7 1 4 list
     ∷ []
 
--- and rolls back; slot 1 then takes two that adjoin, nearest to the last block
-adjoinedAgain : List Call
-adjoinedAgain = adjoined ++ rollbackCall 7 ∷ allocateExtentCall 1 2 3 list ∷ []
+-- and precommits; a drop is refused
+spared : List Call
+spared = adjoined ++ precommitCall 7 ∷ dropCall 7 ∷ []
+
+-- a revoke isn't, and slot 1 then takes two that adjoin, nearest to the last block
+revoked : List Call
+revoked = spared ++ revokeCall 7 ∷ allocateExtentCall 1 2 3 list ∷ []
 
 -- a crash inside a recovery, after one of its two stores; the next open starts it again
 crashedTwice : List Call
@@ -166,9 +172,10 @@ histories =
     ++ after (1 ∷ 2 ∷ []) retaken
     ++ after (1 ∷ 2 ∷ []) reopened
     ++ after (7 ∷ []) borrowed
-    ++ after (1 ∷ 7 ∷ []) rolledBackThere
+    ++ after (1 ∷ 7 ∷ []) dropped
     ++ after (1 ∷ 7 ∷ []) adjoined
-    ++ after (1 ∷ 7 ∷ []) adjoinedAgain
+    ++ after (1 ∷ 7 ∷ []) spared
+    ++ after (1 ∷ 7 ∷ []) revoked
     ++ after (1 ∷ []) crashedTwice
 
 pub expected : List (List ℕ)
@@ -226,9 +233,9 @@ expected =
     ∷ []
     ∷ (0 ∷ 1 ∷ [])
     ∷ []
-    -- rolled back, and taken by slot 1
-    ∷ (0 ∷ 0 ∷ 0 ∷ 16 ∷ 0 ∷ 0 ∷ 17 ∷ 0 ∷ 0 ∷ 0 ∷ 0 ∷ [])
-    ∷ (0 ∷ 0 ∷ 0 ∷ 0 ∷ 0 ∷ 5 ∷ 0 ∷ 0 ∷ 0 ∷ 0 ∷ 0 ∷ [])
+    -- dropped, and taken by slot 1; 14 for a revoke of an open slot
+    ∷ (0 ∷ 0 ∷ 0 ∷ 16 ∷ 0 ∷ 0 ∷ 17 ∷ 14 ∷ 0 ∷ 0 ∷ 0 ∷ 0 ∷ [])
+    ∷ (0 ∷ 0 ∷ 0 ∷ 0 ∷ 0 ∷ 5 ∷ 0 ∷ 0 ∷ 0 ∷ 0 ∷ 0 ∷ 0 ∷ [])
     ∷ []
     ∷ []
     ∷ (0 ∷ 1 ∷ 2 ∷ [])
@@ -244,9 +251,18 @@ expected =
     ∷ []
     ∷ (2 ∷ 1 ∷ [])
     ∷ []
-    -- rolled back, and an extent taken by slot 1
-    ∷ (0 ∷ 0 ∷ 0 ∷ 0 ∷ 0 ∷ 0 ∷ 22 ∷ 18 ∷ 0 ∷ 0 ∷ [])
-    ∷ (0 ∷ 0 ∷ 0 ∷ 0 ∷ 2 ∷ 1 ∷ 0 ∷ 0 ∷ 0 ∷ 2 ∷ [])
+    -- 13 for a drop of a precommitted slot, which holds what it took
+    ∷ (0 ∷ 0 ∷ 0 ∷ 0 ∷ 0 ∷ 0 ∷ 22 ∷ 18 ∷ 0 ∷ 13 ∷ [])
+    ∷ (0 ∷ 0 ∷ 0 ∷ 0 ∷ 2 ∷ 1 ∷ 0 ∷ 0 ∷ 0 ∷ 0 ∷ [])
+    ∷ []
+    ∷ []
+    ∷ (0 ∷ [])
+    ∷ []
+    ∷ (2 ∷ 1 ∷ [])
+    ∷ []
+    -- revoked, and an extent taken by slot 1
+    ∷ (0 ∷ 0 ∷ 0 ∷ 0 ∷ 0 ∷ 0 ∷ 22 ∷ 18 ∷ 0 ∷ 13 ∷ 0 ∷ 0 ∷ [])
+    ∷ (0 ∷ 0 ∷ 0 ∷ 0 ∷ 2 ∷ 1 ∷ 0 ∷ 0 ∷ 0 ∷ 0 ∷ 0 ∷ 2 ∷ [])
     ∷ []
     ∷ []
     ∷ (0 ∷ 2 ∷ 3 ∷ [])
@@ -263,7 +279,7 @@ expected =
     ∷ []
 
 computed : sameRows histories expected ≡ true
-unfolding sameRows expected histories after shown slotSets follow beforePoint afterPoint retaken reopened borrowed rolledBackThere adjoined adjoinedAgain crashedTwice grow list storeCalls xor isSet bit wordOf wordsOf bitmapOf noBitsFrom scan from allocatedBlocks isAvailable availableBlocks member allBelow majority done granted due counted commitCostError touchedBlocks costFor commitCost commitCostAnswer allocateError lowest taking allocateAnswer allocateMemory allocateList adjoining isStart starts distance nearer nearestOf nearest extentStarts noExtent allocateExtentError nearestExtent allocateExtentAnswer allocateExtentMemory allocateExtentList commitError committing commitAnswer commitMemory deallocateError freeing deallocateAnswer deallocateMemory formatError formatted formatAnswer formatDisk openError recoveryDue recoveryPending opened openAnswer openMemory precommitError precommitting precommitAnswer precommitMemory rollbackError rolledBackCom rolledBack rollbackAnswer rollbackMemory startError started startAnswer startMemory statusError statusCounts statusAnswer allocated activeSlots storeError stillDue advanced nextStored storeAnswer storeMemory storeDisk memoryInvalid diskLengthWrong diskBlocksWrong diskBitmapWrong diskLogWrong diskMismatched blocksOutOfRange isNothing nothingPending workPending slotOutOfRange slotActive slotInactive slotPrecommitted slotNotPrecommitted countOutOfRange countTooLarge listShort available tooFewAvailable blockOutOfRange blockFree blockFreeing committedSam entriesOf changedOf commitDue refreshed committed lengthIn entriesIn logEntries entriesValid logValid durable dueStores entriesAgree recoveryMatches diskMatches firstOr first unlessRefused touched outcome storesDone storesDue oneMoreDone finished writes changesFrom logStores checkpointWith journalWith checkpointStores commitStores blocksInRange countInRange slotInRange sameWords allSlots slotValid touches touchesAgree isQuiet pendingValid valid emptied hasWord wordsFrom setsWords without takes frees counts commits stores entered enter enterAll events step run
+unfolding sameRows expected histories after shown slotSets follow beforePoint afterPoint retaken reopened borrowed dropped adjoined spared revoked crashedTwice grow list storeCalls xor isSet bit wordOf wordsOf bitmapOf noBitsFrom scan from allocatedBlocks isAvailable availableBlocks member allBelow majority done granted due counted commitCostError touchedBlocks costFor commitCost commitCostAnswer allocateError lowest taking allocateAnswer allocateMemory allocateList adjoining isStart starts distance nearer nearestOf nearest extentStarts noExtent allocateExtentError nearestExtent allocateExtentAnswer allocateExtentMemory allocateExtentList commitError committing commitAnswer commitMemory deallocateError freeing deallocateAnswer deallocateMemory formatError formatted formatAnswer formatDisk openError recoveryDue recoveryPending opened openAnswer openMemory precommitError precommitting precommitAnswer precommitMemory dropError dropAnswer dropMemory revokeError revokeAnswer revokeMemory rolledBackCom rolledBack startError started startAnswer startMemory statusError statusCounts statusAnswer allocated activeSlots storeError stillDue advanced nextStored storeAnswer storeMemory storeDisk memoryInvalid diskLengthWrong diskBlocksWrong diskBitmapWrong diskLogWrong diskMismatched blocksOutOfRange isNothing nothingPending workPending slotOutOfRange slotActive slotInactive slotPrecommitted slotNotPrecommitted countOutOfRange countTooLarge listShort available tooFewAvailable blockOutOfRange blockFree blockFreeing committedSam entriesOf changedOf commitDue refreshed committed lengthIn entriesIn logEntries entriesValid logValid durable dueStores entriesAgree recoveryMatches diskMatches firstOr first unlessRefused touched outcome storesDone storesDue oneMoreDone finished writes changesFrom logStores checkpointWith journalWith checkpointStores commitStores blocksInRange countInRange slotInRange sameWords allSlots slotValid touches touchesAgree isQuiet pendingValid valid emptied hasWord wordsFrom setsWords without takes frees counts commits stores entered enter enterAll events step run
 computed = refl
 
 pub worked : histories ≡ expected

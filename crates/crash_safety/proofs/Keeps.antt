@@ -17,7 +17,7 @@ use Rattle.model.specs.Disk.{durable}
 use Rattle.crash_safety.specs.Ledger.{holders}
 use Rattle.model.specs.Calls.Format.{formatted, formatDisk}
 use Rattle.model.specs.Calls.Opening.{openError}
-use Rattle.model.specs.Outcome.{Call, openCall, startCall, allocateCall, allocateExtentCall, deallocateCall, precommitCall, commitCall, rollbackCall, storeCall, statusCall, commitCostCall, crashCall}
+use Rattle.model.specs.Outcome.{Call, openCall, startCall, allocateCall, allocateExtentCall, deallocateCall, precommitCall, commitCall, dropCall, revokeCall, storeCall, statusCall, commitCostCall, crashCall}
 use Rattle.crash_safety.specs.World.{World, begin, step, run}
 use Rattle.model.proofs.Laws.Accepted.{accepted-format}
 use Rattle.model.proofs.Laws.DiskParts.{blocks-inRange, none-told, diskOf-quiet, quiet-opens}
@@ -27,7 +27,7 @@ use Rattle.crash_safety.proofs.Holders.{takers-crashed}
 use Rattle.crash_safety.proofs.Invariant.{Invariant, Small}
 use Rattle.crash_safety.proofs.Start.{start-keeps}
 use Rattle.crash_safety.proofs.Precommit.{precommit-keeps}
-use Rattle.crash_safety.proofs.Rollback.{rollback-keeps}
+use Rattle.crash_safety.proofs.Rollback.{drop-keeps, revoke-keeps}
 use Rattle.crash_safety.proofs.Deallocate.{deallocate-keeps}
 use Rattle.crash_safety.proofs.Allocate.{allocate-keeps, allocate-extent-keeps}
 use Rattle.crash_safety.proofs.Commit.{commit-keeps}
@@ -42,7 +42,8 @@ step-keeps (allocateExtentCall s count near list) w i = allocate-extent-keeps w 
 step-keeps (deallocateCall s block) w i = deallocate-keeps w s block i
 step-keeps (precommitCall s) w i = precommit-keeps w s i
 step-keeps (commitCall s) w i = commit-keeps w s i
-step-keeps (rollbackCall s) w i = rollback-keeps w s i
+step-keeps (dropCall s) w i = drop-keeps w s i
+step-keeps (revokeCall s) w i = revoke-keeps w s i
 step-keeps storeCall w i = store-keeps w i
 step-keeps statusCall w i = status-keeps w i
 step-keeps (commitCostCall s count) w i = commit-cost-keeps w s count i

@@ -26,5 +26,6 @@ pub mod Completion
 pub mod Recovering
 pub mod Theorem
 pub mod CommitCost
+pub mod RevokeAlone
 pub mod Consequences
 pub mod Histories

@@ -1,4 +1,4 @@
--- What start, allocate, deallocate, precommit and rollback have in common: one slot changes, and COM; its sets in the ledger
+-- What start, allocate, deallocate, precommit, drop and revoke have in common: one slot changes, and COM; its sets in the ledger
 -- go with it.
 use Prim.Native.Nat.{ℕ, _+_, _≤_, _<_}
 use native.Mathlib.Decide.{ℕ-discrete}

@@ -9,7 +9,7 @@ use Rattle.model_types.specs.declared.answer.StoresAnswer.{StoresAnswer}
 use Rattle.model.specs.Calls.Committing.{commitAnswer}
 use Rattle.model.specs.Calls.CommitCost.{commitCostAnswer}
 use Rattle.model.specs.CostKept.{CostKept}
-use Rattle.model.specs.Outcome.{Call, outcome, openCall, startCall, allocateCall, allocateExtentCall, deallocateCall, precommitCall, commitCall, rollbackCall, storeCall, statusCall, commitCostCall, crashCall}
+use Rattle.model.specs.Outcome.{Call, outcome, openCall, startCall, allocateCall, allocateExtentCall, deallocateCall, precommitCall, commitCall, dropCall, revokeCall, storeCall, statusCall, commitCostCall, crashCall}
 use Rattle.crash_safety.specs.World.{World, step, run}
 use Rattle.crash_safety.specs.InOrder.{AfterEvery}
 
@@ -23,7 +23,8 @@ touchesFor s (allocateExtentCall t count near list) = cond (eqb t s) count 0
 touchesFor s (deallocateCall t block) = cond (eqb t s) 1 0
 touchesFor s (precommitCall t) = 0
 touchesFor s (commitCall t) = 0
-touchesFor s (rollbackCall t) = 0
+touchesFor s (dropCall t) = 0
+touchesFor s (revokeCall t) = 0
 touchesFor s storeCall = 0
 touchesFor s statusCall = 0
 touchesFor s (commitCostCall t count) = 0

@@ -4,3 +4,4 @@ pub mod World
 pub mod Statement
 pub mod InOrder
 pub mod CommitCost
+pub mod RevokeAlone

@@ -3,7 +3,7 @@ use Prim.Native.Nat.{ℕ}
 use mathlib.Core.List.{List, [], _∷_}
 use Rattle.model_types.specs.declared.memory.Memory.{Memory}
 use Rattle.model_types.specs.Memory.{zeroMemory}
-use Rattle.model.specs.Outcome.{Call, Outcome, outcome, openCall, startCall, allocateCall, allocateExtentCall, deallocateCall, precommitCall, commitCall, rollbackCall, storeCall, statusCall, commitCostCall, crashCall}
+use Rattle.model.specs.Outcome.{Call, Outcome, outcome, openCall, startCall, allocateCall, allocateExtentCall, deallocateCall, precommitCall, commitCall, dropCall, revokeCall, storeCall, statusCall, commitCostCall, crashCall}
 use Rattle.crash_safety.specs.Ledger.{Ledger, Event, Kind, emptyLedger, enterAll, crashEvent, opening, starting, allocating, deallocating, precommitting, committing, rolling, storing, asking}
 
 -- the memory and disk that the next call gets, and the ledger beside them
@@ -24,7 +24,7 @@ eventOf kind slot block after = record { kind = kind; slot = slot; block = block
 
 -- what the ledger is fed of a call: its kind, slot and block, and of its outcome the number and the numbers listed.
 -- "an opening counts as a cut just before it". Document 02, job 4: "A run counts as an allocation of each block in it, for cuts
--- and holders too."
+-- and holders too." Job 5: "For cuts and holders either is a rollback."
 unfoldable pub events : Call → Outcome → List Event
 events openCall after = crashEvent ∷ eventOf opening 0 0 after ∷ []
 events (startCall s) after = eventOf starting s 0 after ∷ []
@@ -33,7 +33,8 @@ events (allocateExtentCall s count near list) after = eventOf allocating s 0 aft
 events (deallocateCall s block) after = eventOf deallocating s block after ∷ []
 events (precommitCall s) after = eventOf precommitting s 0 after ∷ []
 events (commitCall s) after = eventOf committing s 0 after ∷ []
-events (rollbackCall s) after = eventOf rolling s 0 after ∷ []
+events (dropCall s) after = eventOf rolling s 0 after ∷ []
+events (revokeCall s) after = eventOf rolling s 0 after ∷ []
 events storeCall after = eventOf storing 0 0 after ∷ []
 events statusCall after = eventOf asking 0 0 after ∷ []
 events (commitCostCall s count) after = eventOf asking s 0 after ∷ []

@@ -8,13 +8,14 @@ use crate::next::stored;
 use allocate::allocate;
 use commit::commit;
 use deallocate::deallocate;
+use drop::drop;
 use inspect_state::fixture::Fixture;
 use inspect_state::fixture::Step;
 use model_types::line::Line;
 use model_types::line::Op;
 use model_types::memory::Memory;
 use precommit::precommit;
-use rollback::rollback;
+use revoke::revoke;
 use start::start;
 use status::status;
 use store::store;
@@ -50,7 +51,8 @@ fn any_call(op: Op, slot: u32, n: u32, memory: Memory, disk: &mut [u32], list: &
         Op::Deallocate => changed(deallocate(memory, slot, n)),
         Op::Precommit => changed(precommit(memory, slot)),
         Op::Commit => stored(commit(memory, slot)),
-        Op::Rollback => changed(rollback(memory, slot)),
+        Op::Drop => changed(drop(memory, slot)),
+        Op::Revoke => changed(revoke(memory, slot)),
         Op::Store => stored(store(memory, disk)),
         Op::Status => measured(status(memory)),
         Op::Crash => crash_call(),

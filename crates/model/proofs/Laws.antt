@@ -30,5 +30,6 @@ pub mod TouchedBy
 pub mod CommitCost
 pub mod Extents
 pub mod Granting
+pub mod DropRevoke
 pub mod Opened
 pub mod Rows

@@ -1,4 +1,4 @@
--- The twelve calls: for each the first error that holds, over exactly the causes that name it, and, refused or not, its
+-- The thirteen calls: for each the first error that holds, over exactly the causes that name it, and, refused or not, its
 -- answer and the memory, list and disk after it.
 pub mod Format
 pub mod Opening
@@ -8,7 +8,8 @@ pub mod AllocateExtent
 pub mod Deallocate
 pub mod Precommit
 pub mod Committing
-pub mod Rollback
+pub mod Drop
+pub mod Revoke
 pub mod Storing
 pub mod Status
 pub mod CommitCost

@@ -4,6 +4,7 @@ pub mod Sizes
 pub mod First
 pub mod Stores
 pub mod Commit
+pub mod Rollback
 pub mod Pending
 pub mod Valid
 pub mod Disk
@@ -12,6 +13,7 @@ pub mod Calls
 pub mod FourCounts
 pub mod CostKept
 pub mod Extents
+pub mod DropRevoke
 pub mod Completion
 pub mod Outcome
 pub mod Line

@@ -13,7 +13,8 @@ use Rattle.model.specs.Calls.AllocateExtent.{allocateExtentAnswer, alloc
 use Rattle.model.specs.Calls.Deallocate.{deallocateAnswer, deallocateMemory}
 use Rattle.model.specs.Calls.Precommit.{precommitAnswer, precommitMemory}
 use Rattle.model.specs.Calls.Committing.{commitAnswer, commitMemory}
-use Rattle.model.specs.Calls.Rollback.{rollbackAnswer, rollbackMemory}
+use Rattle.model.specs.Calls.Drop.{dropAnswer, dropMemory}
+use Rattle.model.specs.Calls.Revoke.{revokeAnswer, revokeMemory}
 use Rattle.model.specs.Calls.Storing.{storeAnswer, storeMemory, storeDisk}
 use Rattle.model.specs.Calls.Status.{statusAnswer}
 use Rattle.model.specs.Calls.CommitCost.{commitCostAnswer}
@@ -27,7 +28,8 @@ pub data Call : Type 0 where
   deallocateCall : ℕ → ℕ → Call
   precommitCall : ℕ → Call
   commitCall : ℕ → Call
-  rollbackCall : ℕ → Call
+  dropCall : ℕ → Call
+  revokeCall : ℕ → Call
   storeCall : Call
   statusCall : Call
   commitCostCall : ℕ → ℕ → Call
@@ -66,7 +68,8 @@ outcome (deallocateCall s block) memory disk = outcomeOf (deallocateMemory memor
 outcome (precommitCall s) memory disk = outcomeOf (precommitMemory memory s) disk (doneNumber (precommitAnswer memory s)) 0
 outcome (commitCall s) memory disk =
     outcomeOf (commitMemory memory s) disk (storesNumber (commitAnswer memory s)) (storesValue (commitAnswer memory s))
-outcome (rollbackCall s) memory disk = outcomeOf (rollbackMemory memory s) disk (doneNumber (rollbackAnswer memory s)) 0
+outcome (dropCall s) memory disk = outcomeOf (dropMemory memory s) disk (doneNumber (dropAnswer memory s)) 0
+outcome (revokeCall s) memory disk = outcomeOf (revokeMemory memory s) disk (doneNumber (revokeAnswer memory s)) 0
 outcome storeCall memory disk =
     outcomeOf
     (storeMemory memory disk)

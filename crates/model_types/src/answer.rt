@@ -12,7 +12,7 @@ ghost use Rattle.model_types.specs.Answers.{
 use crate::error::Error;
 use crate::memory::Memory;
 
-// Format, start, deallocate, precommit and rollback: done, or refused.
+// Format, start, deallocate, precommit, drop and revoke: done, or refused.
 pub enum Answer {
     Done,
     Refused(Error),

@@ -1,3 +1,4 @@
--- The definitions at work: document 01's readings, and extents.
+-- The definitions at work: document 01's readings, extents, and the lines of drop and revoke.
 pub mod Table
 pub mod Extents
+pub mod Lines

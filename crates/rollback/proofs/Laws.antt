@@ -1,2 +1,2 @@
--- What a rollback makes of COM.
+-- What a rollback makes of a memory.
 pub mod Rollback

@@ -1,35 +1,19 @@
-// Rollback: what the slot touched is as before in COM, and the slot is idle.
+// What drop and revoke do to a slot that they serve: one piece of work for both.
 ghost use mathlib.Core.Path.{_≡_};
-ghost use Rattle.model.specs.Calls.Rollback.{rollbackAnswer, rollbackMemory};
-use bitmap::Bitmap;
+ghost use Rattle.bitmap.specs.Bits.{IsBitmap};
+ghost use Rattle.bitops.specs.Combine.{rollbackWord, zip3};
+ghost use Rattle.model_types.specs.Memory.{idleSlot};
 use bitops::combine;
-use model_types::answer::Changed;
-use model_types::memory::Memory;
 use model_types::memory::Slot;
-use validity::valid;
-use verdicts::ready::active;
 
-// Rolls back a slot that isn't idle. Refused, the memory stays.
-pub fn rollback(mut memory: Memory, slot: u32) -> Changed
-    ensures answers { λ r. ⌜ r .answer ≡ rollbackAnswer memory slot ⌝ }
-    ensures leaves { λ r. ⌜ r .memory ≡ rollbackMemory memory slot ⌝ }
+// Makes COM as it was before the slot with this TAM touched it, and gives the slot as it is then, idle.
+pub fn roll_back(com: &mut [u32; 128], sam: &[u32; 128], tam: &[u32; 128]) -> Slot
+    requires { ⌜ IsBitmap (now «com») ⌝ }
+    requires { ⌜ IsBitmap (now sam) ⌝ }
+    requires { ⌜ IsBitmap (now tam) ⌝ }
+    ensures restores { λ _. ⌜ now («com» .exit) ≡ zip3 rollbackWord (now («com» .entry)) (now (sam .entry)) (now (tam .entry)) ⌝ }
+    ensures gives { λ r. ⌜ r ≡ idleSlot ⌝ }
 {
-    let sam = memory.sam;
-    let mut com = memory.com;
-    let mut slots = memory.slots;
-    let pending = memory.pending;
-    let owner = slots[pending.owner()];
-    let sound = valid(memory.blocks, &sam.words, &com.words, slots, pending, owner);
-    let at = Bitmap::slot_index(slot);
-    let own = slots[at];
-    let state = own.state;
-    let verdict = active(sound, pending, slot, state);
-    let answer = verdict.answer();
-    if verdict.is_accepted() {
-        combine::rollback(&mut com.words, &sam.words, &own.tam.words);
-        slots[at] = Slot::idle();
-    }
-    memory.com = com;
-    memory.slots = slots;
-    Changed { answer, memory }
+    combine::rollback(com, sam, tam);
+    Slot::idle()
 }

@@ -1,4 +1,4 @@
--- The causes with which the lists of the six transaction calls and of commit cost start, in document 01's order, told by parts
+-- The causes with which the lists of the eight transaction calls and of commit cost start, in document 01's order, told by parts
 -- of a memory: whether it is valid, its pending work, the slot's number and its state.
 use Prim.Native.Nat.{ℕ}
 use mathlib.Core.Bool.{Bool, not}
@@ -27,10 +27,10 @@ idleCauses sound pending s state = readyCauses sound pending s ++ (isActive stat
 abbrev pub activeCauses : Bool → Pending → ℕ → SlotState → List Cause
 activeCauses sound pending s state = readyCauses sound pending s ++ (not (isActive state) ⇒ SlotIdle ∷ [])
 
--- and 13: allocate, deallocate, precommit and commit cost
+-- and 13: allocate, of an extent or not, deallocate, precommit, drop and commit cost
 abbrev pub openCauses : Bool → Pending → ℕ → SlotState → List Cause
 openCauses sound pending s state = activeCauses sound pending s state ++ (isPrecommitted state ⇒ SlotPrecommitted ∷ [])
 
--- and 14: commit
+-- and 14: commit and revoke
 abbrev pub precommittedCauses : Bool → Pending → ℕ → SlotState → List Cause
 precommittedCauses sound pending s state = activeCauses sound pending s state ++ (not (isPrecommitted state) ⇒ SlotNotPrecommitted ∷ [])

@@ -1,4 +1,4 @@
-// What the six transaction calls and commit cost test first: whether the memory is valid, its pending work, the slot's number
+// What the eight transaction calls and commit cost test first: whether the memory is valid, its pending work, the slot's number
 // and its state.
 ghost use mathlib.Core.Path.{_≡_};
 ghost use Rattle.model.specs.First.{first};
@@ -27,26 +27,28 @@ pub fn idle(sound: bool, pending: Pending, slot: u32, state: SlotState) -> Verdi
     earlier.unless(state.is_active(), Error::SlotBusy)
 }
 
-// 1, 8, 10 and 12: rollback.
-pub fn active(sound: bool, pending: Pending, slot: u32, state: SlotState) -> Verdict
+// 1, 8, 10 and 12: all but start.
+fn active(sound: bool, pending: Pending, slot: u32, state: SlotState) -> Verdict
     ensures { λ r. ⌜ r ≡ verdict (first (activeCauses sound pending slot state)) ⌝ }
 {
     let earlier = ready(sound, pending, slot);
     earlier.unless(!state.is_active(), Error::SlotIdle)
 }
 
-// Those, and 13: allocate, deallocate, precommit and commit cost.
+// Those, and 13: allocate, of an extent or not, deallocate, precommit, drop and commit cost.
 pub fn open(sound: bool, pending: Pending, slot: u32, state: SlotState) -> Verdict
     ensures { λ r. ⌜ r ≡ verdict (first (openCauses sound pending slot state)) ⌝ }
 {
     let earlier = active(sound, pending, slot, state);
-    earlier.unless(state.is_precommitted(), Error::SlotPrecommitted)
+    let precommitted = state.is_precommitted();
+    earlier.unless(precommitted, Error::SlotPrecommitted)
 }
 
-// 1, 8, 10, 12 and 14: commit.
+// 1, 8, 10, 12 and 14: commit and revoke.
 pub fn precommitted(sound: bool, pending: Pending, slot: u32, state: SlotState) -> Verdict
     ensures { λ r. ⌜ r ≡ verdict (first (precommittedCauses sound pending slot state)) ⌝ }
 {
     let earlier = active(sound, pending, slot, state);
-    earlier.unless(!state.is_precommitted(), Error::SlotNotPrecommitted)
+    let precommitted = state.is_precommitted();
+    earlier.unless(!precommitted, Error::SlotNotPrecommitted)
 }

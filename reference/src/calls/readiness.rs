@@ -1,10 +1,10 @@
-//! The causes that the six transaction calls share, commit cost and allocate extent with them. Each
+//! The causes that the transaction calls share, commit cost and allocate extent with them. Each
 //! check gives the slot's index.
 
 use crate::error::{require, Error};
 use crate::memory::{Memory, Pending, SlotState};
 
-/// Causes 1, 8 and 10, which all six test first.
+/// Causes 1, 8 and 10, which all of them test first.
 pub fn any_slot(memory: &Memory, slot: u32) -> Result<usize, Error> {
     require(memory.is_valid(), Error::InvalidMemory)?;
     require(memory.pending == Pending::Nothing, Error::WorkPending)?;
@@ -14,7 +14,7 @@ pub fn any_slot(memory: &Memory, slot: u32) -> Result<usize, Error> {
 }
 
 /// Cause 12 too, which all but start test next.
-pub fn active_slot(memory: &Memory, slot: u32) -> Result<usize, Error> {
+fn active_slot(memory: &Memory, slot: u32) -> Result<usize, Error> {
     let index = any_slot(memory, slot)?;
     require(memory.slots[index].state != SlotState::Idle, Error::SlotIdle)?;
     Ok(index)
@@ -24,5 +24,12 @@ pub fn active_slot(memory: &Memory, slot: u32) -> Result<usize, Error> {
 pub fn open_slot(memory: &Memory, slot: u32) -> Result<usize, Error> {
     let index = active_slot(memory, slot)?;
     require(memory.slots[index].state != SlotState::Precommitted, Error::SlotPrecommitted)?;
+    Ok(index)
+}
+
+/// Cause 14 too, for the calls of a precommitted transaction.
+pub fn precommitted_slot(memory: &Memory, slot: u32) -> Result<usize, Error> {
+    let index = active_slot(memory, slot)?;
+    require(memory.slots[index].state == SlotState::Precommitted, Error::SlotNotPrecommitted)?;
     Ok(index)
 }

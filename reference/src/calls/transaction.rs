@@ -1,6 +1,7 @@
-//! The course of a transaction: start, precommit, commit, rollback.
+//! The course of a transaction: start, precommit, commit, and the two ways to back out, drop and
+//! revoke (document 02, job 5).
 
-use super::readiness::{active_slot, any_slot, open_slot};
+use super::readiness::{any_slot, open_slot, precommitted_slot};
 use crate::bitmap::{majority, Bitmap};
 use crate::error::{require, Error};
 use crate::memory::{Memory, Pending, Slot, SlotState};
@@ -23,10 +24,8 @@ pub fn precommit(memory: &mut Memory, slot: u32) -> Result<(), Error> {
 
 /// Begins a commit and gives the stores due. One that changes no word ends here, with 0.
 pub fn commit(memory: &mut Memory, slot: u32) -> Result<u32, Error> {
-    let index = active_slot(memory, slot)?;
-    let Slot { state, tam } = &memory.slots[index];
-    require(*state == SlotState::Precommitted, Error::SlotNotPrecommitted)?;
-    let changed = memory.changed_words(tam);
+    let index = precommitted_slot(memory, slot)?;
+    let changed = memory.changed_words(&memory.slots[index].tam);
     if changed == 0 {
         memory.slots[index] = Slot::IDLE;
         return Ok(0);
@@ -36,12 +35,24 @@ pub fn commit(memory: &mut Memory, slot: u32) -> Result<u32, Error> {
     Ok(due)
 }
 
+/// Rolls back an open transaction.
+pub fn drop(memory: &mut Memory, slot: u32) -> Result<(), Error> {
+    let index = open_slot(memory, slot)?;
+    roll_back(memory, index);
+    Ok(())
+}
+
+/// Rolls back a precommitted transaction.
+pub fn revoke(memory: &mut Memory, slot: u32) -> Result<(), Error> {
+    let index = precommitted_slot(memory, slot)?;
+    roll_back(memory, index);
+    Ok(())
+}
+
 /// Undoes a transaction: COM becomes the majority of COM, SAM and the complement of TAM (table 2).
-pub fn rollback(memory: &mut Memory, slot: u32) -> Result<(), Error> {
-    let index = active_slot(memory, slot)?;
+fn roll_back(memory: &mut Memory, index: usize) {
     let tam = &memory.slots[index].tam;
     memory.com =
         Bitmap::combine(&memory.com, &memory.sam, tam, |com, sam, tam| majority(com, sam, !tam));
     memory.slots[index] = Slot::IDLE;
-    Ok(())
 }

@@ -21,22 +21,24 @@ pub enum Call {
     Extent,
 }
 
-/// The six transaction calls. The last five are all but start.
-const SIX: [Operation; 6] = [
+/// The transaction calls: start, those that an open slot takes, those that a precommitted one takes.
+const TRANSACTION_CALLS: [Operation; 7] = [
     Operation::Start,
     Operation::Allocate,
     Operation::Deallocate,
     Operation::Precommit,
+    Operation::Drop,
     Operation::Commit,
-    Operation::Rollback,
+    Operation::Revoke,
 ];
-const FIVE: &[Operation] = SIX.split_at(1).1;
-const THREE: &[Operation] = FIVE.split_at(3).0;
+const ALL_BUT_START: &[Operation] = TRANSACTION_CALLS.split_at(1).1;
+const OF_OPEN_SLOTS: &[Operation] = ALL_BUT_START.split_at(4).0;
+const OF_PRECOMMITTED_SLOTS: &[Operation] = ALL_BUT_START.split_at(4).1;
 
 /// The calls of each cause, and how often each is aimed at in a round: more often if there are many
 /// ways to the cause, or two lines for the call.
 const CAUSES: [(Error, &[Operation], usize); 22] = [
-    (Error::InvalidMemory, &SIX, 1),
+    (Error::InvalidMemory, &TRANSACTION_CALLS, 1),
     (Error::InvalidMemory, &[Operation::Store], 1),
     (Error::InvalidMemory, &[Operation::Status], 2),
     (Error::DiskLength, &[Operation::Format, Operation::Open, Operation::Store], 1),
@@ -45,13 +47,13 @@ const CAUSES: [(Error, &[Operation], usize); 22] = [
     (Error::DiskLog, &[Operation::Open], 3),
     (Error::DiskMismatch, &[Operation::Store], 5),
     (Error::BlockCount, &[Operation::Format], 1),
-    (Error::WorkPending, &SIX, 1),
+    (Error::WorkPending, &TRANSACTION_CALLS, 1),
     (Error::NothingPending, &[Operation::Store], 1),
-    (Error::SlotNumber, &SIX, 1),
+    (Error::SlotNumber, &TRANSACTION_CALLS, 1),
     (Error::SlotNotIdle, &[Operation::Start], 1),
-    (Error::SlotIdle, FIVE, 1),
-    (Error::SlotPrecommitted, THREE, 1),
-    (Error::SlotNotPrecommitted, &[Operation::Commit], 1),
+    (Error::SlotIdle, ALL_BUT_START, 1),
+    (Error::SlotPrecommitted, OF_OPEN_SLOTS, 1),
+    (Error::SlotNotPrecommitted, OF_PRECOMMITTED_SLOTS, 1),
     (Error::Count, &[Operation::Allocate], 2),
     (Error::ListLength, &[Operation::Allocate], 1),
     (Error::TooFewAvailable, &[Operation::Allocate], 1),
@@ -61,7 +63,7 @@ const CAUSES: [(Error, &[Operation], usize); 22] = [
 ];
 
 /// The causes of commit cost, allocate's but for the list's length, and how often each is to be
-/// reached in a round. Most are met beside calls of the six.
+/// reached in a round. Most are met beside transaction calls.
 const COST_CAUSES: [(Error, usize); 7] = [
     (Error::InvalidMemory, 2),
     (Error::WorkPending, 2),
@@ -90,7 +92,7 @@ const ACCEPTED_EXTENTS: usize = 3;
 impl Aim {
     /// The aims of one round.
     pub fn all() -> Vec<Aim> {
-        let mut aims = aims_of(None, &SIX, 1);
+        let mut aims = aims_of(None, &TRANSACTION_CALLS, 1);
         aims.extend(aims_of(None, &[Operation::Status], 2));
         for (error, operations, times) in CAUSES {
             aims.extend(aims_of(Some(error), operations, times));
@@ -105,10 +107,10 @@ impl Aim {
         matches!(self.error, Some(Error::WorkPending | Error::DiskMismatch))
     }
 
-    /// Whether the call is one of the six, commit cost or an extent, which don't look at the disk.
+    /// Whether the call is a transaction's, commit cost or an extent, which don't look at the disk.
     pub fn is_of_a_transaction(&self) -> bool {
         match self.call {
-            Call::Bench(operation) => SIX.contains(&operation),
+            Call::Bench(operation) => TRANSACTION_CALLS.contains(&operation),
             Call::Cost | Call::Extent => true,
         }
     }
@@ -147,23 +149,23 @@ impl Damage {
         self.with_company(aim)
     }
 
-    /// A commit cost or an extent is made beside one of the six that is to be refused with the same
-    /// error, if there still is one, for that takes fewer lines.
+    /// A commit cost or an extent is made beside a transaction call that is to be refused with the
+    /// same error, if there still is one, for that takes fewer lines.
     fn with_company(&self, aim: Aim) -> Aim {
         let company = match aim.call {
             Call::Cost | Call::Extent if aim.error.is_some() => {
-                self.lacking_one_of_the_six(aim.error)
+                self.lacking_transaction_call(aim.error)
             }
             _ => None,
         };
         company.map_or(aim, |operation| Aim { call: Call::Bench(operation), ..aim })
     }
 
-    /// One of the six that is still to be refused with this error.
-    pub(super) fn lacking_one_of_the_six(&self, error: Option<Error>) -> Option<Operation> {
+    /// A transaction call that is still to be refused with this error.
+    pub(super) fn lacking_transaction_call(&self, error: Option<Error>) -> Option<Operation> {
         let lacks =
             |operation: &Operation| self.lacks(Aim { error, call: Call::Bench(*operation) });
-        SIX.into_iter().find(lacks)
+        TRANSACTION_CALLS.into_iter().find(lacks)
     }
 
     /// Whether an aim is still to be reached in this round.

@@ -36,18 +36,34 @@ impl Damage {
             let beside = self.extent_beside(made);
             self.strike_off(Aim { error: beside, call: Call::Extent });
         }
-        if is_of_all_six(error) && self.random.one_in(ANOTHER_IN) {
-            self.another_beside(error);
+        let is_followed = match error {
+            Some(Error::InvalidMemory | Error::WorkPending) => self.random.one_in(ANOTHER_IN),
+            Some(
+                Error::SlotNumber
+                | Error::SlotIdle
+                | Error::SlotPrecommitted
+                | Error::SlotNotPrecommitted,
+            ) => true,
+            _ => false,
+        };
+        if is_followed {
+            self.another_beside(made);
         }
     }
 
-    /// Another of the six.
-    fn another_beside(&mut self, error: Option<Error>) {
-        if let Some(operation) = self.lacking_one_of_the_six(error) {
-            let (slot, number) = self.any_arguments(operation);
-            let error = self.call(operation, slot, number);
-            self.strike_off(Aim { error, call: Call::Bench(operation) });
-        }
+    /// Another transaction call, of a slot with which it meets the same error.
+    fn another_beside(&mut self, made: Made) {
+        let Some(operation) = self.lacking_transaction_call(made.error) else {
+            return;
+        };
+        let (any_slot, number) = self.any_arguments(operation);
+        let slot = match made.error {
+            Some(Error::InvalidMemory | Error::WorkPending) => any_slot,
+            Some(Error::SlotNumber) => self.wrong_slot(),
+            _ => made.slot,
+        };
+        let error = self.call(operation, slot, number);
+        self.strike_off(Aim { error, call: Call::Bench(operation) });
     }
 
     fn cost_beside(&mut self, made: Made) -> Option<Error> {
@@ -89,9 +105,4 @@ impl Damage {
             self.large_wrong_slot()
         }
     }
-}
-
-/// Whether all six meet this error, whatever their slot.
-fn is_of_all_six(error: Option<Error>) -> bool {
-    matches!(error, Some(Error::InvalidMemory | Error::WorkPending))
 }

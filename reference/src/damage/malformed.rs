@@ -9,7 +9,7 @@ use crate::line::Line;
 use crate::test_line::TestLine;
 
 const MOST_LINES: u32 = 3;
-const WRONG_LINES: [&str; 49] = [
+const WRONG_LINES: [&str; 56] = [
     "show ",
     " show",
     "show 0",
@@ -47,6 +47,13 @@ const WRONG_LINES: [&str; 49] = [
     "extent 0 1 00000000002",
     "extent 0 1 4294967296",
     "op=extent seat=0 n=1",
+    "op=roll seat=0 n=0",
+    "op=roll seat=1 n=0",
+    "op=roll seat=7 n=0",
+    "op=drops seat=0 n=0",
+    "op=revok seat=0 n=0",
+    "drop 0",
+    "revoke 0",
     "disk 2",
     "disk 2 4294967296",
     "disk 00000000002 5",

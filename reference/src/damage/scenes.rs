@@ -26,9 +26,8 @@ impl Damage {
         Some(arguments)
     }
 
-    /// For one of the six, or for a status.
+    /// For a transaction call, or for a status.
     fn prepare_acceptance(&mut self, operation: Operation) -> Option<(u32, u32)> {
-        let either = self.random.choose(&[SlotState::Open, SlotState::Precommitted]);
         match operation {
             Operation::Start => Some((self.slot_in(SlotState::Idle)?, 0)),
             Operation::Allocate => Some((self.slot_in(SlotState::Open)?, self.right_count()?)),
@@ -36,7 +35,8 @@ impl Damage {
                 Some((self.slot_in(SlotState::Open)?, self.block_with(true, true)?))
             }
             Operation::Commit => Some((self.slot_in(SlotState::Precommitted)?, 0)),
-            Operation::Rollback => Some((self.slot_in(either)?, 0)),
+            Operation::Drop => Some((self.touched_slot_in(SlotState::Open)?, 0)),
+            Operation::Revoke => Some((self.touched_slot_in(SlotState::Precommitted)?, 0)),
             Operation::Status => {
                 self.make_other_memory()?;
                 Some(self.any_arguments(operation))
@@ -108,15 +108,19 @@ impl Damage {
         Some(())
     }
 
-    /// A slot in the state in which the call gets as far as this cause.
+    /// A slot in the state in which the call gets as far as this cause. Where a precommitted or an
+    /// open slot is itself the cause, it mostly has touched something.
     fn prepare_slot(&mut self, error: Error) -> Option<u32> {
-        let state = match error {
-            Error::SlotNotIdle => self.random.choose(&[SlotState::Open, SlotState::Precommitted]),
-            Error::SlotIdle => SlotState::Idle,
-            Error::SlotPrecommitted => SlotState::Precommitted,
-            _ => SlotState::Open,
-        };
-        self.slot_in(state)
+        match error {
+            Error::SlotNotIdle => {
+                let state = self.random.choose(&[SlotState::Open, SlotState::Precommitted]);
+                self.slot_in(state)
+            }
+            Error::SlotIdle => self.slot_in(SlotState::Idle),
+            Error::SlotPrecommitted => self.touched_slot_in(SlotState::Precommitted),
+            Error::SlotNotPrecommitted => self.touched_slot_in(SlotState::Open),
+            _ => self.slot_in(SlotState::Open),
+        }
     }
 
     fn prepare_number(&mut self, error: Error, operation: Operation, slot: u32) -> Option<u32> {

@@ -8,6 +8,7 @@ use crate::memory::{Memory, Pending, SlotState};
 /// Pending work with more stores left than this isn't run to its end.
 const MOST_STORES: u32 = 24;
 const MOST_TOUCHES: u32 = 4;
+const WRONG_ROLLBACK_IN: u32 = 3;
 
 impl Damage {
     /// Sees to it that nothing is pending, unless too many stores are left.
@@ -72,7 +73,7 @@ impl Damage {
         }
         let slot = self.random.below(Memory::SLOTS as u32);
         if self.state_of(slot) == SlotState::Precommitted || state == SlotState::Idle {
-            self.call(Operation::Rollback, slot, 0);
+            self.roll_back(slot);
         }
         if self.state_of(slot) == SlotState::Idle && state != SlotState::Idle {
             self.call(Operation::Start, slot, 0);
@@ -81,6 +82,56 @@ impl Damage {
             self.call(Operation::Precommit, slot, 0);
         }
         (self.state_of(slot) == state).then_some(slot)
+    }
+
+    /// Makes a slot idle by the call that its state needs, now and then after the other one, which
+    /// is refused.
+    fn roll_back(&mut self, slot: u32) {
+        let (right, wrong) = match self.state_of(slot) {
+            SlotState::Precommitted => (Operation::Revoke, Operation::Drop),
+            SlotState::Open | SlotState::Idle => (Operation::Drop, Operation::Revoke),
+        };
+        if self.random.one_in(WRONG_ROLLBACK_IN) {
+            self.call(wrong, slot, 0);
+        }
+        self.call(right, slot, 0);
+    }
+
+    /// A slot in this state that has touched something, with another one that has too, if so much
+    /// can be had.
+    pub(super) fn touched_slot_in(&mut self, state: SlotState) -> Option<u32> {
+        self.come_to_rest()?;
+        if self.touched_slots().len() < 2 {
+            self.touch_in_two_slots();
+        }
+        let mut touched = self.touched_slots();
+        touched.retain(|slot| self.state_of(*slot) == state);
+        if !touched.is_empty() {
+            return Some(self.random.choose(&touched));
+        }
+        let slot = self.slot_in(SlotState::Open)?;
+        self.touch(slot);
+        if state == SlotState::Precommitted {
+            self.call(Operation::Precommit, slot, 0);
+        }
+        Some(slot)
+    }
+
+    fn touch_in_two_slots(&mut self) {
+        self.lengthen_list();
+        for slot in self.slots_to_touch(2) {
+            if self.state_of(slot) == SlotState::Open {
+                self.touch(slot);
+            }
+        }
+    }
+
+    /// The slots that have touched something.
+    fn touched_slots(&self) -> Vec<u32> {
+        let memory = &self.state.memory;
+        let mut slots = self.active_slots();
+        slots.retain(|slot| memory.touched_blocks(&memory.slots[*slot as usize].tam) > 0);
+        slots
     }
 
     /// One of the slots in this state, if there is one.

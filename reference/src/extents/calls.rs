@@ -17,6 +17,8 @@ const LONG_LIST_IN: u32 = 4;
 const NEW_START_IN: u32 = 60;
 /// The same where no block is available.
 const NEW_START_IF_FULL_IN: u32 = 5;
+const PRECOMMIT_IN: u32 = 3;
+const WRONG_ROLLBACK_IN: u32 = 3;
 /// Where nothing can be had at all, no more extents than these are asked for.
 const MOST_IN_VAIN: u32 = 5;
 const OTHER_SLOT_IN: u32 = 60;
@@ -40,8 +42,7 @@ impl Extents {
             self.alter(TestLine::Show);
         } else if !touched.is_empty() && self.random.one_in(new_start_in) {
             let slot = self.random.choose(&touched);
-            self.call(Operation::Rollback, slot, 0);
-            self.call(Operation::Start, slot, 0);
+            self.start_anew(slot);
         } else if self.random.one_in(ALLOCATE_IN) {
             let (slot, count) = (self.open_slot(), 1 + self.random.below(4));
             self.call(Operation::Allocate, slot, count);
@@ -54,6 +55,21 @@ impl Extents {
             let near = self.any_near(count);
             self.alter(TestLine::Extent { slot, count, near });
         }
+    }
+
+    /// Rolls an open slot back, now and then as a precommitted one, and starts it anew. The call
+    /// that serves the other state comes first now and then.
+    fn start_anew(&mut self, slot: u32) {
+        let (mut right, mut wrong) = (Operation::Drop, Operation::Revoke);
+        if self.random.one_in(PRECOMMIT_IN) {
+            self.call(Operation::Precommit, slot, 0);
+            (right, wrong) = (wrong, right);
+        }
+        if self.random.one_in(WRONG_ROLLBACK_IN) {
+            self.call(wrong, slot, 0);
+        }
+        self.call(right, slot, 0);
+        self.call(Operation::Start, slot, 0);
     }
 
     /// The open slots that have touched something.

@@ -1,6 +1,6 @@
 //! The choice of the next call by the state that the allocator is in.
 
-use super::{History, Phase};
+use super::{History, Phase, Plan};
 use crate::bitmap::Bitmap;
 use crate::line::{Line, Operation};
 use crate::memory::{Memory, Pending, SlotState};
@@ -15,8 +15,20 @@ const STATUS_IN: u32 = 40;
 const REFORMAT_IN: u32 = 4000;
 const NEW_PHASE_IN: u32 = 200;
 const UNTOUCHED_IN: u32 = 20;
+/// One in this many transactions is short, whatever the phase, so that many can be rolled back.
+const SHORT_IN: u32 = 4;
+const MOST_SHORT_TOUCHES: u32 = 2;
+/// One in this many transactions is dropped when it has made its touches.
+const DROP_IN: u32 = 14;
+const SHORT_DROP_IN: u32 = 3;
+/// One in this many precommitted transactions is revoked.
+const REVOKE_IN: u32 = 10;
+const SHORT_REVOKE_IN: u32 = 2;
+/// One in this many lines of an open slot is a revoke, and of a precommitted one a drop.
+const WRONG_REVOKE_IN: u32 = 120;
+const WRONG_DROP_IN: u32 = 8;
 
-const STRAY_OPERATIONS: [Operation; 12] = [
+const STRAY_OPERATIONS: [Operation; 13] = [
     Operation::Format,
     Operation::Start,
     Operation::Allocate,
@@ -26,7 +38,8 @@ const STRAY_OPERATIONS: [Operation; 12] = [
     Operation::Deallocate,
     Operation::Precommit,
     Operation::Commit,
-    Operation::Rollback,
+    Operation::Drop,
+    Operation::Revoke,
     Operation::Store,
     Operation::Status,
 ];
@@ -128,30 +141,36 @@ impl History {
 
     fn choose_in_transaction(&mut self) -> Line {
         let slot = self.random.below(self.phase.slots);
-        let touches_left = &mut self.touches_left[slot as usize];
-        match self.bench.memory.slots[slot as usize].state {
+        let Plan { touches_left, is_short } = self.plans[slot as usize];
+        let (drop_in, revoke_in) =
+            if is_short { (SHORT_DROP_IN, SHORT_REVOKE_IN) } else { (DROP_IN, REVOKE_IN) };
+        let operation = match self.bench.memory.slots[slot as usize].state {
             SlotState::Idle => {
-                *touches_left = match self.random.below(UNTOUCHED_IN) {
-                    0 => 0,
-                    _ => 1 + self.random.below(self.phase.most_touches),
-                };
-                line(Operation::Start, slot, 0)
+                self.plans[slot as usize] = self.choose_plan();
+                Operation::Start
             }
-            SlotState::Open if *touches_left > 0 => {
-                *touches_left -= 1;
-                self.choose_touch(slot)
+            SlotState::Open if self.random.one_in(WRONG_REVOKE_IN) => Operation::Revoke,
+            SlotState::Open if touches_left > 0 => {
+                self.plans[slot as usize].touches_left -= 1;
+                return self.choose_touch(slot);
             }
-            SlotState::Open => {
-                let operation =
-                    if self.random.one_in(10) { Operation::Rollback } else { Operation::Precommit };
-                line(operation, slot, 0)
-            }
-            SlotState::Precommitted => {
-                let operation =
-                    if self.random.one_in(10) { Operation::Rollback } else { Operation::Commit };
-                line(operation, slot, 0)
-            }
-        }
+            SlotState::Open if self.random.one_in(drop_in) => Operation::Drop,
+            SlotState::Open => Operation::Precommit,
+            SlotState::Precommitted if self.random.one_in(WRONG_DROP_IN) => Operation::Drop,
+            SlotState::Precommitted if self.random.one_in(revoke_in) => Operation::Revoke,
+            SlotState::Precommitted => Operation::Commit,
+        };
+        line(operation, slot, 0)
+    }
+
+    fn choose_plan(&mut self) -> Plan {
+        let is_short = self.random.one_in(SHORT_IN);
+        let most = if is_short { MOST_SHORT_TOUCHES } else { self.phase.most_touches };
+        let touches_left = match self.random.below(UNTOUCHED_IN) {
+            0 => 0,
+            _ => 1 + self.random.below(most),
+        };
+        Plan { touches_left, is_short }
     }
 
     /// An allocate or a deallocate, whichever the phase wants and the volume has blocks for.

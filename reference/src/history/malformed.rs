@@ -6,6 +6,9 @@ use crate::random::Random;
 
 const WRONG_WORDS: [&str; 10] =
     ["allocate", "Commit", "fre", "", "cut2", "STORE", "open\t", "status", "form at", "pre,"];
+/// The word that rollback had before document 02's job 5, and words near those of drop and revoke.
+const OLD_AND_NEAR_WORDS: [&str; 10] =
+    ["roll", "roll", "roll", "rollback", "dro", "drops", "Drop", "revok", "revoked", "Revoke"];
 const TRAILING_BYTES: [u8; 6] = [b' ', b'\r', b'\t', 0, b'x', 0xff];
 const WRONG_NUMBERS: [&str; 9] =
     ["", "000000", "123456", "-1", "+1", "0x1", "1.", "1e1", "\u{661}"];
@@ -13,7 +16,7 @@ const WRONG_NUMBERS: [&str; 9] =
 /// A line not in form, made from a line in form. Byte 10 isn't in it.
 pub fn bytes(random: &mut Random, line: &Line) -> Vec<u8> {
     let in_form = text::bytes(random, line);
-    let mut bytes = match random.below(12) {
+    let mut bytes = match random.below(13) {
         0 => with_word(line, random.choose(&WRONG_WORDS)),
         1 => with_number(random, line),
         2 => swapped_fields(line),
@@ -25,6 +28,7 @@ pub fn bytes(random: &mut Random, line: &Line) -> Vec<u8> {
         8 => [b" ", in_form.as_slice()].concat(),
         9 => without_byte(random, in_form),
         10 => with_inserted_byte(random, in_form),
+        11 => with_word(line, random.choose(&OLD_AND_NEAR_WORDS)),
         _ => with_changed_byte(random, in_form),
     };
     if parse(&bytes).is_some() {

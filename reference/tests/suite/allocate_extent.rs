@@ -4,7 +4,7 @@ use crate::extents::{assert_granted, extent_by_blocks, is_tie, put, Asked};
 use crate::state::{assert_refused, State, UNWRITTEN};
 use crate::valid_memory::valid_memory;
 use reference::inspector::Inspector;
-use reference::{allocate_extent, rollback, Bitmap, Error, Memory, Pending, Random};
+use reference::{allocate_extent, drop, Bitmap, Error, Memory, Pending, Random};
 use std::ops::RangeInclusive;
 
 const SLOT: u32 = 5;
@@ -197,15 +197,15 @@ fn what_others_have_touched_is_not_available() {
 }
 
 #[test]
-fn an_extent_is_lost_at_a_crash_given_back_at_a_rollback_and_kept_at_a_commit() {
+fn an_extent_is_lost_at_a_crash_given_back_at_a_drop_and_kept_at_a_commit() {
     let mut state = State::opened(100);
     state.start(2);
     assert_eq!(allocate_extent(&mut state.memory, 2, 10, 50, &mut state.list), Ok(50));
-    let (mut crashed, mut rolled_back) = (state.clone(), state.clone());
+    let (mut crashed, mut dropped) = (state.clone(), state.clone());
     assert_eq!(crashed.crash_and_open(), 0);
     assert_eq!(crashed.memory, State::opened(100).memory);
-    assert_eq!(rollback(&mut rolled_back.memory, 2), Ok(()));
-    assert_eq!(rolled_back.memory, State::opened(100).memory);
+    assert_eq!(drop(&mut dropped.memory, 2), Ok(()));
+    assert_eq!(dropped.memory, State::opened(100).memory);
     state.commit(2);
     assert_eq!(state.crash_and_open(), 0);
     assert_eq!(state.memory.sam.words[1], ((1 << 10) - 1) << 18);

@@ -3,23 +3,23 @@
 use crate::state::{assert_accepted, assert_refused, State, UNWRITTEN};
 use reference::bench::Bench;
 use reference::{
-    allocate, commit, deallocate, format, open, precommit, rollback, start, status, store, Error,
-    Memory, BITMAP_START, BLOCKS_POSITION, LOG_LENGTH_POSITION, LOG_START,
+    allocate, commit, deallocate, drop, format, open, precommit, revoke, start, status, store,
+    Error, Memory, BITMAP_START, BLOCKS_POSITION, LOG_LENGTH_POSITION, LOG_START,
 };
 
-/// All six transaction calls are refused with this error. None of their later causes matters.
-fn assert_six_refused(state: &State, error: Error, slot: u32) {
+/// All transaction calls are refused with this error. None of their later causes matters.
+fn assert_all_refused(state: &State, error: Error, slot: u32) {
     assert_refused(state, error, |s| start(&mut s.memory, slot));
-    assert_five_refused(state, error, slot);
+    assert_all_but_start_refused(state, error, slot);
 }
 
-/// All but start.
-fn assert_five_refused(state: &State, error: Error, slot: u32) {
+fn assert_all_but_start_refused(state: &State, error: Error, slot: u32) {
     assert_refused(state, error, |s| allocate(&mut s.memory, slot, 1, &mut s.list));
     assert_refused(state, error, |s| deallocate(&mut s.memory, slot, 0));
     assert_refused(state, error, |s| precommit(&mut s.memory, slot));
     assert_refused(state, error, |s| commit(&mut s.memory, slot));
-    assert_refused(state, error, |s| rollback(&mut s.memory, slot));
+    assert_refused(state, error, |s| drop(&mut s.memory, slot));
+    assert_refused(state, error, |s| revoke(&mut s.memory, slot));
 }
 
 fn assert_open_refused(disk: &[u32], error: Error) {
@@ -39,7 +39,7 @@ fn disk_with_log(log_length: u32, log: &[u32]) -> Vec<u32> {
 #[test]
 fn cause_1_memory_not_valid() {
     for state in State::not_valid() {
-        assert_six_refused(&state, Error::InvalidMemory, 1);
+        assert_all_refused(&state, Error::InvalidMemory, 1);
         assert_refused(&state, Error::InvalidMemory, |s| store(&mut s.memory, &mut s.disk));
         assert_refused(&state, Error::InvalidMemory, |s| status(&s.memory));
     }
@@ -152,13 +152,13 @@ fn cause_8_work_pending() {
     state.precommit(1);
     assert_eq!(commit(&mut state.memory, 2), Ok(8));
     for slot in [0, 1, 2] {
-        assert_six_refused(&state, Error::WorkPending, slot);
+        assert_all_refused(&state, Error::WorkPending, slot);
     }
     state.stores(5);
-    assert_six_refused(&state, Error::WorkPending, 1);
+    assert_all_refused(&state, Error::WorkPending, 1);
     assert_eq!(state.crash_and_open(), 3);
     for slot in [0, 1, 2] {
-        assert_six_refused(&state, Error::WorkPending, slot);
+        assert_all_refused(&state, Error::WorkPending, slot);
     }
     assert_accepted(&state, |s| status(&s.memory));
 }
@@ -171,7 +171,7 @@ fn cause_9_nothing_pending() {
 #[test]
 fn cause_10_slot_above_7() {
     for slot in [8, 9, u32::MAX] {
-        assert_six_refused(&State::busy(), Error::SlotNumber, slot);
+        assert_all_refused(&State::busy(), Error::SlotNumber, slot);
     }
     assert_accepted(&State::busy(), |s| start(&mut s.memory, 7));
 }
@@ -186,7 +186,7 @@ fn cause_11_slot_not_idle() {
 #[test]
 fn cause_12_slot_idle() {
     for slot in [0, 3, 7] {
-        assert_five_refused(&State::busy(), Error::SlotIdle, slot);
+        assert_all_but_start_refused(&State::busy(), Error::SlotIdle, slot);
     }
 }
 
@@ -196,13 +196,18 @@ fn cause_13_slot_precommitted() {
     assert_refused(&state, Error::SlotPrecommitted, |s| allocate(&mut s.memory, 2, 1, &mut s.list));
     assert_refused(&state, Error::SlotPrecommitted, |s| deallocate(&mut s.memory, 2, 0));
     assert_refused(&state, Error::SlotPrecommitted, |s| precommit(&mut s.memory, 2));
+    assert_refused(&state, Error::SlotPrecommitted, |s| drop(&mut s.memory, 2));
     assert_accepted(&state, |s| commit(&mut s.memory, 2));
-    assert_accepted(&state, |s| rollback(&mut s.memory, 2));
+    assert_accepted(&state, |s| revoke(&mut s.memory, 2));
 }
 
 #[test]
 fn cause_14_slot_not_precommitted() {
-    assert_refused(&State::busy(), Error::SlotNotPrecommitted, |s| commit(&mut s.memory, 1));
+    let state = State::busy();
+    assert_refused(&state, Error::SlotNotPrecommitted, |s| commit(&mut s.memory, 1));
+    assert_refused(&state, Error::SlotNotPrecommitted, |s| revoke(&mut s.memory, 1));
+    assert_accepted(&state, |s| precommit(&mut s.memory, 1));
+    assert_accepted(&state, |s| drop(&mut s.memory, 1));
 }
 
 #[test]
@@ -274,7 +279,15 @@ fn cause_21_line_not_in_form() {
     bench.memory = state.memory.clone();
     bench.disk.copy_from_slice(&state.disk);
     let (memory, disk, list) = (bench.memory.clone(), bench.disk, bench.list);
-    for line in ["", "op=store seat=0 n=0 ", "op=commit seat=000002 n=0", "op=commit seat=2"] {
+    let lines = [
+        "",
+        "op=store seat=0 n=0 ",
+        "op=commit seat=000002 n=0",
+        "op=commit seat=2",
+        "op=roll seat=1 n=0",
+        "op=roll seat=2 n=0",
+    ];
+    for line in lines {
         assert_eq!(bench.run(line.as_bytes()), Err(Error::MalformedLine));
         assert_eq!((&bench.memory, bench.disk, bench.list), (&memory, disk, list));
     }

@@ -63,7 +63,7 @@ impl Chains {
         let slot = line.slot as usize;
         match line.operation {
             Operation::Crash | Operation::Open => self.begun.iter_mut().for_each(Vec::clear),
-            Operation::Start | Operation::Deallocate | Operation::Rollback => {
+            Operation::Start | Operation::Deallocate | Operation::Drop | Operation::Revoke => {
                 self.begun[slot].clear()
             }
             Operation::Allocate => self.note_taken(slot, line.number, false),

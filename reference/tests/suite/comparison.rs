@@ -1,6 +1,7 @@
 //! The comparison of an allocator with the ledger, after every call of a history.
 
 use crate::extents::Asked;
+use crate::rollbacks::answer_by_words;
 use reference::bench::Bench;
 use reference::history::{History, Shape};
 use reference::line::{parse, Line, Operation};
@@ -46,6 +47,8 @@ pub fn fault_of_steps(
     let mut bench = Bench::new();
     let mut ledger = Ledger::new();
     lines.find_map(|line| {
+        let before = bench.memory.clone();
+        let mut wrong_answer = None;
         match test_line::parse(&line) {
             Some(TestLine::Cost { slot, count }) => {
                 let _ = commit_cost(&bench.memory, slot, count);
@@ -59,9 +62,10 @@ pub fn fault_of_steps(
                 let line = parse(&line).unwrap();
                 let answer = step(&mut bench, &line);
                 record(&mut ledger, &line, answer, &bench.list);
+                wrong_answer = wrong_rollback(&before, &line, answer);
             }
         }
-        fault(&bench, &ledger).or_else(|| invalid_memory(&bench))
+        fault(&bench, &ledger).or_else(|| invalid_memory(&bench)).or(wrong_answer)
     })
 }
 
@@ -111,4 +115,20 @@ fn fault(bench: &Bench, ledger: &Ledger) -> Option<&'static str> {
 fn invalid_memory(bench: &Bench) -> Option<&'static str> {
     let expected = bench.memory == Memory::ZEROS || bench.memory.is_valid();
     (!expected).then_some("the memory isn't valid")
+}
+
+/// For the ledger either of drop and revoke is a rollback, so it doesn't see one of a slot that the
+/// other serves, or another number of a refusal.
+fn wrong_rollback(
+    before: &Memory,
+    line: &Line,
+    answer: Result<u32, Error>,
+) -> Option<&'static str> {
+    match line.operation {
+        Operation::Drop | Operation::Revoke => {
+            let expected = answer_by_words(before, line.operation, line.slot).map(|()| 0);
+            (answer != expected).then_some("a drop or a revoke has another answer")
+        }
+        _ => None,
+    }
 }

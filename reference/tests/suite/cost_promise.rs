@@ -5,8 +5,8 @@ use crate::state::{states_of, State};
 use crate::valid_memory::valid_memory;
 use reference::bench::Bench;
 use reference::{
-    allocate, commit, commit_cost, deallocate, precommit, rollback, start, store, Error, Memory,
-    Pending, Random, SlotState, MAX_COUNT,
+    allocate, commit, commit_cost, deallocate, drop, precommit, revoke, start, store, Error,
+    Memory, Pending, Random, SlotState, MAX_COUNT,
 };
 
 /// How many commits made as many stores as foretold, and how many made fewer. Those without a store
@@ -100,7 +100,8 @@ fn call_of_another(random: &mut Random, state: &mut State, own: u32) -> Result<(
     let slot = (own + 1 + random.below(7)) % 8;
     match memory.slots[slot as usize].state {
         SlotState::Idle => start(memory, slot),
-        _ if random.one_in(12) => rollback(memory, slot),
+        SlotState::Open if random.one_in(12) => drop(memory, slot),
+        SlotState::Precommitted if random.one_in(12) => revoke(memory, slot),
         SlotState::Open => match random.below(3) {
             0 => allocate(memory, slot, 1 + random.below(8), list),
             1 => deallocate(memory, slot, random.below(memory.blocks)),

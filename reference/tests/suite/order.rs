@@ -3,8 +3,8 @@
 
 use crate::state::{assert_refused, State, UNWRITTEN};
 use reference::{
-    allocate, commit, deallocate, format, open, precommit, rollback, start, store, Error, Memory,
-    Pending, SlotState, BITMAP_START, LOG_START,
+    allocate, commit, deallocate, drop, format, open, precommit, revoke, start, store, Error,
+    Memory, Pending, SlotState, BITMAP_START, LOG_START,
 };
 
 /// 40 blocks, all allocated. Slot 1 is open, slot 2 precommitted; each has freed a block.
@@ -36,34 +36,39 @@ fn invalid() -> State {
 
 type SlotCall = fn(&mut State, u32) -> Result<u32, Error>;
 
-/// The six with their later arguments out of range.
-const SIX: [SlotCall; 6] = [
+/// The transaction calls with their later arguments out of range: start, those that an open slot
+/// takes, those that a precommitted one takes.
+const CALLS: [SlotCall; 7] = [
     |s, slot| start(&mut s.memory, slot).map(|()| 0),
     |s, slot| allocate(&mut s.memory, slot, 65, &mut []).map(|()| 0),
     |s, slot| deallocate(&mut s.memory, slot, 40).map(|()| 0),
     |s, slot| precommit(&mut s.memory, slot).map(|()| 0),
+    |s, slot| drop(&mut s.memory, slot).map(|()| 0),
     |s, slot| commit(&mut s.memory, slot),
-    |s, slot| rollback(&mut s.memory, slot).map(|()| 0),
+    |s, slot| revoke(&mut s.memory, slot).map(|()| 0),
 ];
 
 #[test]
-fn of_the_six_transaction_calls() {
-    for call in SIX {
+fn of_the_transaction_calls() {
+    for call in CALLS {
         assert_refused(&invalid(), Error::InvalidMemory, |s| call(s, 8));
         assert_refused(&pending(), Error::WorkPending, |s| call(s, 8));
         assert_refused(&full(), Error::SlotNumber, |s| call(s, 8));
     }
-    for call in &SIX[1..] {
+    for call in &CALLS[1..] {
         assert_refused(&full(), Error::SlotIdle, |s| call(s, 0));
     }
-    for call in &SIX[1..4] {
+    for call in &CALLS[1..5] {
         assert_refused(&full(), Error::SlotPrecommitted, |s| call(s, 2));
+    }
+    for call in &CALLS[5..] {
+        assert_refused(&full(), Error::SlotNotPrecommitted, |s| call(s, 1));
     }
 }
 
 #[test]
 fn of_pending_work_before_the_slots_state() {
-    for call in SIX {
+    for call in CALLS {
         for slot in 0..3 {
             assert_refused(&pending(), Error::WorkPending, |s| call(s, slot));
         }

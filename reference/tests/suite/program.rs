@@ -77,15 +77,39 @@ op=commit seat=0 n=0
 op=stat seat=0 n=0
 ";
     let stores = "op=store seat=0 n=0\n".repeat(11);
-    let rest = "op=stat seat=0 n=0\nop=start seat=1 n=9\nop=free seat=1 n=64\nop=roll seat=1 n=0\n";
+    let rest = "op=stat seat=0 n=0
+op=start seat=1 n=9
+op=free seat=1 n=64
+op=drop seat=1 n=7
+op=start seat=1 n=0
+op=pre seat=1 n=0
+op=revoke seat=1 n=7
+";
     let mut output = Vec::new();
     program::run(format!("{input}{stores}{rest}").as_bytes(), &mut output).unwrap();
     let output = String::from_utf8(output).unwrap();
     let values: Vec<&str> =
         output.lines().map(|line| line.split_once("value=").unwrap().1).collect();
-    let expected = "0 0 0 0 5 0 11 0 10 9 8 7 6 5 4 3 2 1 0 65 0 0 0";
+    let expected = "0 0 0 0 5 0 11 0 10 9 8 7 6 5 4 3 2 1 0 65 0 0 0 0 0 0";
     assert_eq!(values.join(" "), expected);
     assert!(output.lines().all(|line| line.contains(" answer=0 ")));
+}
+
+#[test]
+fn drop_and_revoke_stand_in_the_place_of_roll() {
+    let answered = |lines: &[&str]| {
+        let call = |line: &&str| format!("op={line} n=0\n");
+        let lines: String = lines.iter().map(call).collect();
+        answers(format!("{FORMAT}\n{OPEN}\n{lines}").as_bytes())[2..].to_vec()
+    };
+    let open = ["start seat=3", "roll seat=3", "revoke seat=3", "drop seat=3", "drop seat=3"];
+    assert_eq!(answered(&open), [0, 21, 14, 0, 12]);
+    let precommitted =
+        ["start seat=3", "pre seat=3", "roll seat=3", "drop seat=3", "revoke seat=3"];
+    assert_eq!(answered(&precommitted), [0, 0, 21, 13, 0]);
+    assert_eq!(answered(&["drop seat=3", "revoke seat=3"]), [12, 12]);
+    assert_eq!(answered(&["drop seat=8", "revoke seat=8", "roll seat=8"]), [10, 10, 21]);
+    assert_eq!(answered(&["cut seat=0", "drop seat=8", "revoke seat=3"]), [0, 1, 1]);
 }
 
 #[test]

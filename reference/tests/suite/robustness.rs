@@ -4,12 +4,14 @@
 use crate::costs::cost_by_blocks;
 use crate::counts::counts_by_blocks;
 use crate::extents::{extent_by_blocks, Asked};
+use crate::rollbacks;
 use crate::state::{State, UNWRITTEN};
 use reference::bench::Bench;
 use reference::history::{History, Shape};
+use reference::line::Operation;
 use reference::{
-    allocate, allocate_extent, commit, commit_cost, deallocate, format, open, precommit, rollback,
-    start, status, store, Bitmap, Error, Memory, Pending, Random, Slot, SlotState, DISK_WORDS,
+    allocate, allocate_extent, commit, commit_cost, deallocate, format, open, precommit, start,
+    status, store, Bitmap, Error, Memory, Pending, Random, Slot, SlotState, DISK_WORDS,
 };
 
 const NUMBERS: [u32; 14] = [0, 1, 2, 3, 7, 8, 31, 64, 65, 128, 129, 4096, u32::MAX - 1, u32::MAX];
@@ -17,7 +19,7 @@ const NUMBERS: [u32; 14] = [0, 1, 2, 3, 7, 8, 31, 64, 65, 128, 129, 4096, u32::M
 /// A call with a slot, a number and, for an extent, a near block.
 type AnyCall = fn(&mut State, u32, u32, u32) -> Result<u32, Error>;
 
-const CALLS: [AnyCall; 12] = [
+const CALLS: [AnyCall; 13] = [
     |s, _, number, _| format(&mut s.disk, number).map(|()| 0),
     |s, _, _, _| {
         let opened = open(&s.disk);
@@ -32,7 +34,8 @@ const CALLS: [AnyCall; 12] = [
     |s, slot, number, _| deallocate(&mut s.memory, slot, number).map(|()| 0),
     |s, slot, _, _| precommit(&mut s.memory, slot).map(|()| 0),
     |s, slot, _, _| commit(&mut s.memory, slot),
-    |s, slot, _, _| rollback(&mut s.memory, slot).map(|()| 0),
+    |s, slot, _, _| rollbacks::checked(&mut s.memory, Operation::Drop, slot).map(|()| 0),
+    |s, slot, _, _| rollbacks::checked(&mut s.memory, Operation::Revoke, slot).map(|()| 0),
     |s, _, _, _| store(&mut s.memory, &mut s.disk),
     |s, _, _, _| {
         let counts = status(&s.memory)?;

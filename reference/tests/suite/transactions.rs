@@ -1,16 +1,16 @@
 //! What transactions do to the bitmaps of each other, and status.
 
 use crate::state::State;
-use reference::{rollback, status, Bitmap, Slot, SlotState, Status};
+use reference::{drop, revoke, status, Bitmap, Slot, SlotState, Status};
 
-fn bitmap(first: u32, second: u32) -> Bitmap {
+pub fn bitmap(first: u32, second: u32) -> Bitmap {
     let mut bitmap = Bitmap::EMPTY;
     bitmap.words[..2].copy_from_slice(&[first, second]);
     bitmap
 }
 
 /// 40 blocks, of which 0 to 31 are allocated. Slots 1 and 2 have each taken two and freed one.
-fn two_transactions() -> State {
+pub fn two_transactions() -> State {
     let mut state = State::opened(40);
     state.start(0);
     state.allocate(0, 32);
@@ -34,30 +34,6 @@ fn start_copies_sam() {
 }
 
 #[test]
-fn rollback_undoes_the_transactions_own_touches_alone() {
-    for precommitted in [false, true] {
-        let mut state = two_transactions();
-        if precommitted {
-            state.precommit(1);
-        }
-        let mut expected = state.memory.clone();
-        assert_eq!(rollback(&mut state.memory, 1), Ok(()));
-        expected.com = bitmap(!2, 0b1100);
-        expected.slots[1] = Slot::IDLE;
-        assert_eq!(state.memory, expected);
-    }
-}
-
-#[test]
-fn rollback_leaves_no_bit_from_m_on() {
-    let mut state = State::opened(3);
-    state.start(6);
-    state.allocate(6, 3);
-    assert_eq!(rollback(&mut state.memory, 6), Ok(()));
-    assert_eq!(state.memory, State::opened(3).memory);
-}
-
-#[test]
 fn a_commit_gives_the_others_the_new_bits_of_its_blocks_alone() {
     let mut state = two_transactions();
     let mut expected = state.memory.clone();
@@ -69,17 +45,23 @@ fn a_commit_gives_the_others_the_new_bits_of_its_blocks_alone() {
 }
 
 #[test]
-fn a_block_freed_and_retaken_is_not_another_open_transactions() {
-    let mut state = two_transactions();
-    state.start(3);
-    state.commit(1);
-    state.start(4);
-    assert_eq!(state.allocate(4, 1), [0]);
-    state.commit(2);
-    assert_eq!(rollback(&mut state.memory, 3), Ok(()));
-    state.commit(4);
-    assert_eq!(state.memory.sam, bitmap(!2, 0b1111));
-    assert_eq!(state.memory.com, state.memory.sam);
+fn a_block_freed_and_retaken_is_not_another_transactions() {
+    for is_precommitted in [false, true] {
+        let mut state = two_transactions();
+        state.start(3);
+        if is_precommitted {
+            state.precommit(3);
+        }
+        state.commit(1);
+        state.start(4);
+        assert_eq!(state.allocate(4, 1), [0]);
+        state.commit(2);
+        let roll_back = if is_precommitted { revoke } else { drop };
+        assert_eq!(roll_back(&mut state.memory, 3), Ok(()));
+        state.commit(4);
+        assert_eq!(state.memory.sam, bitmap(!2, 0b1111));
+        assert_eq!(state.memory.com, state.memory.sam);
+    }
 }
 
 #[test]

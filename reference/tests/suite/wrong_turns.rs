@@ -1,5 +1,6 @@
-//! The wrong turns of document 01, and some of extents: the comparison with the ledger notices an
-//! allocator that takes one. Each is the right allocator with one thing undone after the call.
+//! The wrong turns of document 01, some of extents and some of drop and revoke: the comparison with
+//! the ledger notices an allocator that takes one. Each is the right allocator with one thing done
+//! otherwise.
 
 use crate::comparison::{
     fault_in_history, fault_of_steps, history_with_extents, right_extent, ExtentStep, Step,
@@ -27,13 +28,70 @@ fn faults_of_extents(step: ExtentStep) -> Vec<&'static str> {
     faults
 }
 
-/// The commit formula used for rollback, as printed.
-fn rollback_as_printed(bench: &mut Bench, line: &Line) -> Result<u32, Error> {
+/// The commit formula used for rollback, as printed, in one of the two calls.
+fn as_printed(bench: &mut Bench, line: &Line, operation: Operation) -> Result<u32, Error> {
     let before = bench.memory.clone();
     let answer = bench.call(line);
-    if line.operation == Operation::Rollback && answer.is_ok() {
+    if line.operation == operation && answer.is_ok() {
         let tam = &before.slots[line.slot as usize].tam;
         bench.memory.com = Bitmap::combine(&before.com, &before.sam, tam, majority);
+    }
+    answer
+}
+
+fn drop_as_printed(bench: &mut Bench, line: &Line) -> Result<u32, Error> {
+    as_printed(bench, line, Operation::Drop)
+}
+
+fn revoke_as_printed(bench: &mut Bench, line: &Line) -> Result<u32, Error> {
+    as_printed(bench, line, Operation::Revoke)
+}
+
+/// A drop that takes a precommitted slot too, as rollback did.
+fn drop_of_precommitted(bench: &mut Bench, line: &Line) -> Result<u32, Error> {
+    match (line.operation, bench.call(line)) {
+        (Operation::Drop, Err(Error::SlotPrecommitted)) => {
+            bench.call(&Line { operation: Operation::Revoke, ..*line })
+        }
+        (_, answer) => answer,
+    }
+}
+
+/// A revoke that takes an open slot too.
+fn revoke_of_open(bench: &mut Bench, line: &Line) -> Result<u32, Error> {
+    match (line.operation, bench.call(line)) {
+        (Operation::Revoke, Err(Error::SlotNotPrecommitted)) => {
+            bench.call(&Line { operation: Operation::Drop, ..*line })
+        }
+        (_, answer) => answer,
+    }
+}
+
+/// 13 and 14 exchanged between drop and revoke.
+fn codes_exchanged(bench: &mut Bench, line: &Line) -> Result<u32, Error> {
+    match (line.operation, bench.call(line)) {
+        (Operation::Drop, Err(Error::SlotPrecommitted)) => Err(Error::SlotNotPrecommitted),
+        (Operation::Revoke, Err(Error::SlotNotPrecommitted)) => Err(Error::SlotPrecommitted),
+        (_, answer) => answer,
+    }
+}
+
+/// A revoke that undoes the precommit alone and leaves the slot open.
+fn revoke_to_open(bench: &mut Bench, line: &Line) -> Result<u32, Error> {
+    let before = bench.memory.clone();
+    let answer = bench.call(line);
+    if line.operation == Operation::Revoke && answer.is_ok() {
+        bench.memory = before;
+        bench.memory.slots[line.slot as usize].state = SlotState::Open;
+    }
+    answer
+}
+
+/// A drop that answers 13 and rolls the precommitted slot back all the same.
+fn refused_drop_done(bench: &mut Bench, line: &Line) -> Result<u32, Error> {
+    let answer = bench.call(line);
+    if line.operation == Operation::Drop && answer == Err(Error::SlotPrecommitted) {
+        bench.call(&Line { operation: Operation::Revoke, ..*line })?;
     }
     answer
 }
@@ -159,7 +217,29 @@ fn the_comparison_notices_an_extent_listed_wrongly() {
 
 #[test]
 fn the_comparison_notices_the_printed_formula_for_rollback() {
-    assert_eq!(faults(rollback_as_printed), ["the memory isn't valid"]);
+    assert_eq!(faults(drop_as_printed), ["the memory isn't valid"]);
+    assert_eq!(faults(revoke_as_printed), ["the memory isn't valid"]);
+}
+
+#[test]
+fn the_comparison_notices_a_drop_or_a_revoke_of_a_slot_that_the_other_serves() {
+    assert_eq!(faults(drop_of_precommitted), ["a drop or a revoke has another answer"]);
+    assert_eq!(faults(revoke_of_open), ["a drop or a revoke has another answer"]);
+}
+
+#[test]
+fn the_comparison_notices_13_and_14_exchanged() {
+    assert_eq!(faults(codes_exchanged), ["a drop or a revoke has another answer"]);
+}
+
+#[test]
+fn the_comparison_notices_a_revoke_that_leaves_the_slot_open() {
+    assert!(faults(revoke_to_open).contains(&"an open gives another SAM"));
+}
+
+#[test]
+fn the_comparison_notices_a_refused_drop_that_is_done_all_the_same() {
+    assert!(faults(refused_drop_done).contains(&"a block has two holders"));
 }
 
 #[test]

@@ -39,7 +39,8 @@ other-letter Op.Allocate b rest e = rw e
 other-letter Op.Deallocate b rest e = rw e
 other-letter Op.Precommit b rest e = rw e
 other-letter Op.Commit b rest e = rw e
-other-letter Op.Rollback b rest e = rw e
+other-letter Op.Drop b rest e = rw e
+other-letter Op.Revoke b rest e = rw e
 other-letter Op.Store b rest e = rw e
 other-letter Op.Status b rest e = rw e
 other-letter Op.Crash b rest e = rw e
@@ -76,6 +77,7 @@ at-letter line b inside e =
 pub no-ops : (b : ℕ)
     → (b ≡ 97 → ⊥)
     → (b ≡ 99 → ⊥)
+    → (b ≡ 100 → ⊥)
     → (b ≡ 102 → ⊥)
     → (b ≡ 111 → ⊥)
     → (b ≡ 112 → ⊥)
@@ -83,7 +85,7 @@ pub no-ops : (b : ℕ)
     → (b ≡ 115 → ⊥)
     → opsWith b ops ≡ []
 unfolding ops
-no-ops b a c f o p r s = rw (is-not 102 f, is-not 111 o, is-not 115 s, is-not 97 a, is-not 112 p, is-not 99 c, is-not 114 r)
+no-ops b a c d f o p r s = rw (is-not 102 f, is-not 111 o, is-not 115 s, is-not 97 a, is-not 112 p, is-not 99 c, is-not 100 d, is-not 114 r)
   where
     is-not : (k : ℕ) → (b ≡ k → ⊥) → eqb k b ≡ false
     is-not k ne = ne-eqb k b (λ e. ne (sym e))

@@ -17,10 +17,11 @@ use Rattle.model.specs.Calls.AllocateExtent.{allocateExtentError, allocateExten
 use Rattle.model.specs.Calls.Deallocate.{deallocateError, deallocateMemory}
 use Rattle.model.specs.Calls.Precommit.{precommitError, precommitMemory}
 use Rattle.model.specs.Calls.Committing.{commitError, commitMemory}
-use Rattle.model.specs.Calls.Rollback.{rollbackError, rollbackMemory}
+use Rattle.model.specs.Calls.Drop.{dropError, dropMemory}
+use Rattle.model.specs.Calls.Revoke.{revokeError, revokeMemory}
 use Rattle.model.specs.Calls.Storing.{storeError, storeMemory}
 use Rattle.model.specs.Calls.Format.{formatDisk}
-use Rattle.model.specs.Outcome.{Call, outcome, openCall, startCall, allocateCall, allocateExtentCall, deallocateCall, precommitCall, commitCall, rollbackCall, storeCall, statusCall, commitCostCall, crashCall}
+use Rattle.model.specs.Outcome.{Call, outcome, openCall, startCall, allocateCall, allocateExtentCall, deallocateCall, precommitCall, commitCall, dropCall, revokeCall, storeCall, statusCall, commitCostCall, crashCall}
 use Rattle.crash_safety.specs.World.{World, begin, step, run}
 use Rattle.model.proofs.Laws.DiskParts.{opens-parts}
 use Rattle.model.proofs.Laws.Valid.{parts-valid}
@@ -28,7 +29,7 @@ use Rattle.model.proofs.Laws.Opened.{opened-valid, opened-matches}
 use Rattle.crash_safety.specs.InOrder.{Consistent, InUse, InOrder, AlwaysInOrder, NoCrash, InUseFromOpen}
 use Rattle.crash_safety.proofs.Invariant.{Invariant}
 use Rattle.crash_safety.proofs.Keeps.{step-keeps, run-keeps, begins-formatted}
-use Rattle.crash_safety.proofs.InOrder.Touching.{start-consistent, precommit-consistent, rollback-consistent, allocate-consistent, allocate-extent-consistent, deallocate-consistent}
+use Rattle.crash_safety.proofs.InOrder.Touching.{start-consistent, precommit-consistent, drop-consistent, revoke-consistent, allocate-consistent, allocate-extent-consistent, deallocate-consistent}
 use Rattle.crash_safety.proofs.InOrder.Commit.{commit-consistent}
 use Rattle.crash_safety.proofs.InOrder.Store.{store-consistent}
 
@@ -63,7 +64,8 @@ step-uses (deallocateCall s block) w i c =
 step-uses (precommitCall s) w i c = inr (precommit-consistent (w .memory) (w .disk) (i .related (c .is-valid) .slots) c s)
 step-uses (commitCall s) w i c =
     inr (commit-consistent (w .memory) (w .disk) s (i .related (c .is-valid) .slots) (i .related (c .is-valid) .sam) c)
-step-uses (rollbackCall s) w i c = inr (rollback-consistent (w .memory) (w .disk) (i .related (c .is-valid) .slots) c s)
+step-uses (dropCall s) w i c = inr (drop-consistent (w .memory) (w .disk) (i .related (c .is-valid) .slots) c s)
+step-uses (revokeCall s) w i c = inr (revoke-consistent (w .memory) (w .disk) (i .related (c .is-valid) .slots) c s)
 step-uses storeCall w i c = inr (store-uses w i c)
 step-uses statusCall w i c = inr c
 step-uses (commitCostCall s count) w i c = inr c
@@ -77,7 +79,7 @@ run-uses (call ∷ calls) w n i c =
 
 -- a memory of zeros is refused by every call but open
 zeros-stay : (call : Call) (w : World) → Invariant w → w .memory ≡ zeroMemory → InOrder (step call w)
-unfolding step outcome startMemory startError allocateMemory allocateError allocateExtentMemory allocateExtentError deallocateMemory deallocateError precommitMemory precommitError commitMemory commitError rollbackMemory rollbackError storeMemory storeError memoryInvalid valid blocksInRange first firstOr unlessRefused
+unfolding step outcome startMemory startError allocateMemory allocateError allocateExtentMemory allocateExtentError deallocateMemory deallocateError precommitMemory precommitError commitMemory commitError dropMemory dropError revokeMemory revokeError storeMemory storeError memoryInvalid valid blocksInRange first firstOr unlessRefused
 zeros-stay openCall w i e = inr (open-uses w i)
 zeros-stay (startCall s) w i e = inl (ap (λ (m : Memory). startMemory m s) e)
 zeros-stay (allocateCall s count list) w i e = inl (ap (λ (m : Memory). allocateMemory m s count list) e)
@@ -85,7 +87,8 @@ zeros-stay (allocateExtentCall s count near list) w i e = inl (ap (λ (m : Memor
 zeros-stay (deallocateCall s block) w i e = inl (ap (λ (m : Memory). deallocateMemory m s block) e)
 zeros-stay (precommitCall s) w i e = inl (ap (λ (m : Memory). precommitMemory m s) e)
 zeros-stay (commitCall s) w i e = inl (ap (λ (m : Memory). commitMemory m s) e)
-zeros-stay (rollbackCall s) w i e = inl (ap (λ (m : Memory). rollbackMemory m s) e)
+zeros-stay (dropCall s) w i e = inl (ap (λ (m : Memory). dropMemory m s) e)
+zeros-stay (revokeCall s) w i e = inl (ap (λ (m : Memory). revokeMemory m s) e)
 zeros-stay storeCall w i e = inl (ap (λ (m : Memory). storeMemory m (w .disk)) e)
 zeros-stay statusCall w i e = inl e
 zeros-stay (commitCostCall s count) w i e = inl e

@@ -1,4 +1,4 @@
--- Start, allocate, of an extent or not, deallocate, precommit and rollback leave a valid memory, and SAM as it was.
+-- Start, allocate, of an extent or not, deallocate, precommit, drop and revoke leave a valid memory, and SAM as it was.
 use Prim.Native.Nat.{ℕ, _<_}
 use native.Mathlib.Omega.{arith}
 use mathlib.Core.Path.{_≡_, refl, _∙_}
@@ -14,8 +14,10 @@ use Rattle.model.specs.Calls.Allocate.{allocateError, lowest, taking, allocateM
 use Rattle.model.specs.Calls.AllocateExtent.{allocateExtentError, nearestExtent, allocateExtentMemory}
 use Rattle.model.specs.Calls.Deallocate.{deallocateError, freeing, deallocateMemory}
 use Rattle.model.specs.Calls.Precommit.{precommitError, precommitting, precommitMemory}
-use Rattle.model.specs.Calls.Rollback.{rollbackError, rolledBack, rollbackMemory}
-use Rattle.model.proofs.Laws.Accepted.{Ready, start-accepted, deallocate-accepted, precommit-accepted, rollback-accepted}
+use Rattle.model.specs.Rollback.{rolledBack}
+use Rattle.model.specs.Calls.Drop.{dropError, dropMemory}
+use Rattle.model.specs.Calls.Revoke.{revokeError, revokeMemory}
+use Rattle.model.proofs.Laws.Accepted.{Ready, start-accepted, deallocate-accepted, precommit-accepted, RollbackAccepted, drop-rolls-back, revoke-rolls-back}
 use Rattle.model.proofs.Laws.Valid.{ValidParts, valid-parts}
 use Rattle.model.proofs.Laws.Untouched.{started-valid, precommitted-valid}
 use Rattle.model.proofs.Laws.Taking.{grant-valid, freeing-valid}
@@ -57,14 +59,23 @@ module _ (memory : Memory) (disk : List ℕ) (eight : length (memory .slots) ≡
       still s (precommitting memory s) (a .ready) refl refl refl
       (precommitted-valid memory s parts (a .ready .nothing-pending) (there s (a .ready)) (a .active)))
 
-  pub rollback-consistent : (s : ℕ) → Consistent (rollbackMemory memory s) disk
-  unfolding rollbackMemory rolledBack
-  rollback-consistent s =
-      unless-refused memory (rolledBack memory s) disk (rollbackError memory s) c
+  rolled-consistent : (s : ℕ) (error : Option Error) → (error ≡ none → RollbackAccepted memory s)
+      → Consistent (unlessRefused error (rolledBack memory s) memory) disk
+  unfolding rolledBack
+  rolled-consistent s error accepted =
+      unless-refused memory (rolledBack memory s) disk error c
       (λ e.
-      let a = rollback-accepted memory s e in
+      let a = accepted e in
       still s (rolledBack memory s) (a .ready) refl refl refl
       (rolled-back-valid memory parts s (a .ready .nothing-pending) (there s (a .ready)) (a .active)))
+
+  pub drop-consistent : (s : ℕ) → Consistent (dropMemory memory s) disk
+  unfolding dropMemory
+  drop-consistent s = rolled-consistent s (dropError memory s) (drop-rolls-back memory s)
+
+  pub revoke-consistent : (s : ℕ) → Consistent (revokeMemory memory s) disk
+  unfolding revokeMemory
+  revoke-consistent s = rolled-consistent s (revokeError memory s) (revoke-rolls-back memory s)
 
   -- a grant of any available blocks
   grant-consistent : (s count : ℕ) (blocks : List ℕ) (error : Option Error) → (error ≡ none → Grants memory s count blocks)

@@ -5,17 +5,17 @@ use native.Mathlib.Omega.{arith}
 use mathlib.Core.Path.{_≡_, refl, ap, _∙_}
 use mathlib.Core.Bool.{Bool, true, false, not, _&&_, false≢true}
 use mathlib.Core.Option.{none}
-use mathlib.Core.List.{List, [], _∷_}
+use mathlib.Core.List.{List, [], _∷_, _++_}
 use lib.ListN.{length}
 use lib.Dec.{leb, eqb}
 use borrow.Author.Tests.{leb-true, leb-false, ltb-true, ltb-false, lt-ltb, le-ltb, eqb-true, eqb-false, eq-eqb, not-false}
 use Rattle.bitmap.specs.Sizes.{slotCount, maxCount, blocksInRange, countInRange, slotInRange}
-use Rattle.model.specs.Types.{Pending, Nothing, Commit, Recovery, Memory, SlotPrecommitted, SlotNotPrecommitted, CountRange, TooFewAvailable}
+use Rattle.model.specs.Types.{Error, Pending, Nothing, Commit, Recovery, Memory, MemoryInvalid, WorkPending, SlotRange, SlotIdle, SlotPrecommitted, SlotNotPrecommitted, CountRange, TooFewAvailable}
 use Rattle.model.specs.Sizes.{diskWords}
 use Rattle.model_types.specs.Memory.{slotAt, isActive, isPrecommitted, samBit, comBit}
 use Rattle.model.specs.Valid.{valid}
 use Rattle.model.specs.Disk.{diskMatches}
-use Rattle.model.specs.First.{first, firstOr, _⇒_}
+use Rattle.model.specs.First.{Cause, first, firstOr, _⇒_}
 use Rattle.model.specs.Causes.{memoryInvalid, diskLengthWrong, diskMismatched, blocksOutOfRange, nothingPending, workPending, slotOutOfRange, slotActive, slotInactive, slotPrecommitted, slotNotPrecommitted, countOutOfRange, countTooLarge, listShort, available, tooFewAvailable, blockOutOfRange, blockFree, blockFreeing, extentStarts, noExtent}
 use Rattle.model_types.specs.Pending.{isNothing}
 use Rattle.model.specs.Calls.Format.{formatError}
@@ -25,7 +25,8 @@ use Rattle.model.specs.Calls.AllocateExtent.{allocateExtentError}
 use Rattle.model.specs.Calls.Deallocate.{deallocateError}
 use Rattle.model.specs.Calls.Precommit.{precommitError}
 use Rattle.model.specs.Calls.Committing.{commitError}
-use Rattle.model.specs.Calls.Rollback.{rollbackError}
+use Rattle.model.specs.Calls.Drop.{dropError}
+use Rattle.model.specs.Calls.Revoke.{revokeError}
 use Rattle.model.specs.Calls.Storing.{storeError}
 use Rattle.model.specs.Calls.CommitCost.{commitCostError}
 use Rattle.model.proofs.Laws.First.{first-none, none-first, none-append}
@@ -101,7 +102,7 @@ extent-found : (memory : Memory) (count : ℕ) → noExtent memory count ≡ fal
 unfolding noExtent
 extent-found memory count e = let some = eqb-false (length (extentStarts memory count)) 0 e in omega (arith, some)
 
--- ---- the seven transaction calls, and commit cost
+-- ---- the eight transaction calls, and commit cost
 
 -- 1, 8 and 10: the memory is valid, nothing is pending, and the slot is there
 pub record Ready (memory : Memory) (s : ℕ) : Type 0 where
@@ -219,23 +220,38 @@ module _ (memory : Memory) (s : ℕ) where
         unfreed = both-set (samBit memory block) (comBit memory block) allocated (c20 .0);
       }
 
+  -- what drop and revoke tell alike
   pub record RollbackAccepted : Type 0 where
     pub ready : Ready memory s
     pub active : isActive (slotAt memory s .state) ≡ true
 
-  pub rollback-accepted : rollbackError memory s ≡ none → RollbackAccepted
-  unfolding rollbackError
-  rollback-accepted e =
+  -- the causes with which the lists of all calls but start begin, and that none of them holds then
+  abbrev activeCauses : List Cause
+  activeCauses =
+      memoryInvalid memory ⇒ MemoryInvalid
+      ∷ workPending memory ⇒ WorkPending
+      ∷ slotOutOfRange s ⇒ SlotRange
+      ∷ slotInactive memory s ⇒ SlotIdle
+      ∷ []
+
+  accepted-active : RollbackAccepted → first activeCauses ≡ none
+  unfolding first firstOr memoryInvalid workPending nothingPending isNothing slotOutOfRange slotInRange slotInactive slotActive
+  accepted-active a = rw (a .ready .is-valid, a .ready .nothing-pending, lt-ltb s slotCount (a .ready .below), a .active)
+
+  -- where a list goes on with one cause more
+  record OneCauseMore (holds : Bool) : Type 0 where
+    pub ready : Ready memory s
+    pub active : isActive (slotAt memory s .state) ≡ true
+    pub passed : holds ≡ false
+
+  one-cause-more : (holds : Bool) (error : Error) → first (activeCauses ++ (holds ⇒ error ∷ [])) ≡ none → OneCauseMore holds
+  one-cause-more holds error e =
       let c1 = first-none _ e in
       let c8 = c1 .1 in
       let c10 = c8 .1 in
       let c12 = c10 .1 in
-      record { ready = ready-of memory s (c1 .0) (c8 .0) (c10 .0); active = slot-active memory s (c12 .0) }
-
-  -- and the other way round: the causes with which the lists of all calls but start begin
-  accepted-rollback : RollbackAccepted → rollbackError memory s ≡ none
-  unfolding rollbackError first firstOr memoryInvalid workPending nothingPending isNothing slotOutOfRange slotInRange slotInactive slotActive
-  accepted-rollback a = rw (a .ready .is-valid, a .ready .nothing-pending, lt-ltb s slotCount (a .ready .below), a .active)
+      let last = c12 .1 in
+      record { ready = ready-of memory s (c1 .0) (c8 .0) (c10 .0); active = slot-active memory s (c12 .0); passed = last .0 }
 
   pub record PrecommitAccepted : Type 0 where
     pub ready : Ready memory s
@@ -244,20 +260,22 @@ module _ (memory : Memory) (s : ℕ) where
 
   pub precommit-accepted : precommitError memory s ≡ none → PrecommitAccepted
   unfolding precommitError slotPrecommitted
-  precommit-accepted e =
-      let c1 = first-none _ e in
-      let c8 = c1 .1 in
-      let c10 = c8 .1 in
-      let c12 = c10 .1 in
-      let c13 = c12 .1 in
-      record { ready = ready-of memory s (c1 .0) (c8 .0) (c10 .0); active = slot-active memory s (c12 .0); not-precommitted = c13 .0 }
+  precommit-accepted e = let a = one-cause-more _ _ e in record { ready = a .ready; active = a .active; not-precommitted = a .passed }
 
   -- and the other way round
   pub accepted-precommit : PrecommitAccepted → precommitError memory s ≡ none
-  unfolding rollbackError precommitError slotPrecommitted
+  unfolding precommitError slotPrecommitted
   accepted-precommit a =
-      none-append _ (slotPrecommitted memory s ⇒ SlotPrecommitted ∷ []) (accepted-rollback (record { ready = a .ready; active = a .active }))
+      none-append _ (slotPrecommitted memory s ⇒ SlotPrecommitted ∷ []) (accepted-active (record { ready = a .ready; active = a .active }))
       ∙ none-first _ (a .not-precommitted, tt)
+
+  -- a drop tells what a precommit does
+  pub drop-accepted : dropError memory s ≡ none → PrecommitAccepted
+  unfolding dropError slotPrecommitted
+  drop-accepted e = let a = one-cause-more _ _ e in record { ready = a .ready; active = a .active; not-precommitted = a .passed }
+
+  pub drop-rolls-back : dropError memory s ≡ none → RollbackAccepted
+  drop-rolls-back e = let a = drop-accepted e in record { ready = a .ready; active = a .active }
 
   pub record CommitCostAccepted (count : ℕ) : Type 0 where
     pub ready : Ready memory s
@@ -300,23 +318,25 @@ module _ (memory : Memory) (s : ℕ) where
   pub commit-accepted : commitError memory s ≡ none → CommitAccepted
   unfolding commitError slotNotPrecommitted slotPrecommitted
   commit-accepted e =
-      let c1 = first-none _ e in
-      let c8 = c1 .1 in
-      let c10 = c8 .1 in
-      let c12 = c10 .1 in
-      let c14 = c12 .1 in
-      record {
-        ready = ready-of memory s (c1 .0) (c8 .0) (c10 .0);
-        active = slot-active memory s (c12 .0);
-        precommitted = not-false (isPrecommitted (slotAt memory s .state)) (c14 .0);
-      }
+      let a = one-cause-more _ _ e in
+      record { ready = a .ready; active = a .active; precommitted = not-false (isPrecommitted (slotAt memory s .state)) (a .passed) }
 
   -- and the other way round
   pub accepted-commit : CommitAccepted → commitError memory s ≡ none
-  unfolding rollbackError commitError slotNotPrecommitted slotPrecommitted
+  unfolding commitError slotNotPrecommitted slotPrecommitted
   accepted-commit a =
-      none-append _ (slotNotPrecommitted memory s ⇒ SlotNotPrecommitted ∷ []) (accepted-rollback (record { ready = a .ready; active = a .active }))
+      none-append _ (slotNotPrecommitted memory s ⇒ SlotNotPrecommitted ∷ []) (accepted-active (record { ready = a .ready; active = a .active }))
       ∙ none-first _ (ap not (a .precommitted), tt)
+
+  -- a revoke tells what a commit does
+  pub revoke-accepted : revokeError memory s ≡ none → CommitAccepted
+  unfolding revokeError slotNotPrecommitted slotPrecommitted
+  revoke-accepted e =
+      let a = one-cause-more _ _ e in
+      record { ready = a .ready; active = a .active; precommitted = not-false (isPrecommitted (slotAt memory s .state)) (a .passed) }
+
+  pub revoke-rolls-back : revokeError memory s ≡ none → RollbackAccepted
+  revoke-rolls-back e = let a = revoke-accepted e in record { ready = a .ready; active = a .active }
 
 -- ---- store
 

@@ -2,8 +2,14 @@
 use Prim.Native.Nat.{ℕ}
 use mathlib.Core.Path.{_≡_, refl}
 use mathlib.Core.Option.{Option, none, some}
-use Rattle.model.specs.Types.{Error, GrantAnswer, StoresAnswer}
-use Rattle.model_types.specs.Answers.{granted, due}
+use Rattle.model.specs.Types.{Error, Answer, GrantAnswer, StoresAnswer}
+use Rattle.model_types.specs.Answers.{done, granted, due}
+
+-- done
+pub done-answered : (error : Option Error) → done error ≡ Answer.Done → error ≡ none
+unfolding done
+done-answered none e = refl
+done-answered (some error) e = cc
 
 -- stores due
 pub due-answered : (error : Option Error) (n cost : ℕ) → due error n ≡ StoresAnswer.Due cost → (error ≡ none) × (n ≡ cost)

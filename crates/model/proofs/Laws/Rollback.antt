@@ -12,7 +12,7 @@ use Rattle.bitmap.proofs.Laws.Majority.{rollback-untouched, rollback-touched}
 use Rattle.model.specs.Types.{Nothing, Memory}
 use Rattle.model_types.specs.Memory.{slotAt, idleSlot, isActive, samBit, comBit, tamBit}
 use Rattle.model.specs.Valid.{touched}
-use Rattle.model.specs.Calls.Rollback.{rolledBackCom, rolledBack}
+use Rattle.model.specs.Rollback.{rolledBackCom, rolledBack}
 use Rattle.model.proofs.Laws.Valid.{ValidParts, touchesBlock, idle-valid}
 use Rattle.model.proofs.Laws.Commit.{same-or-not, touched-differs}
 use Rattle.model.proofs.Laws.Touches.{one, xor-self, differs, touching-valid}

@@ -20,7 +20,7 @@ use Rattle.model.specs.Calls.Start.{started}
 use Rattle.model.specs.Calls.Allocate.{taking}
 use Rattle.model.specs.Calls.Deallocate.{freeing}
 use Rattle.model.specs.Calls.Precommit.{precommitting}
-use Rattle.model.specs.Calls.Rollback.{rolledBack}
+use Rattle.model.specs.Rollback.{rolledBack}
 use Rattle.model.specs.Calls.CommitCost.{touchedBlocks}
 use Rattle.model.proofs.Laws.Fields.{slot-same, slot-other}
 use Rattle.model.proofs.Laws.Valid.{ValidParts, touchesBlock}

@@ -1,21 +1,46 @@
--- Rollback: the COM that it leaves.
+-- What the piece of work makes of a memory: that of the definition.
 use Prim.Native.Nat.{ℕ}
-use mathlib.Core.Path.{_≡_}
+use mathlib.Core.Path.{_≡_, ap, ap₂, _∙_}
 use mathlib.Core.Bool.{true}
+use mathlib.Core.List.{List}
+use lib.ListN.{getD, set}
+use Rattle.bitmap.specs.declared.Bitmap.{Bitmap}
+use Rattle.bitmap.specs.Sizes.{slotIndex, IsSlot}
 use Rattle.model_types.specs.declared.memory.Memory.{Memory}
-use Rattle.model_types.specs.Memory.{slotAt}
+use Rattle.model_types.specs.declared.memory.Slot.{Slot}
+use Rattle.model_types.specs.Memory.{bitmap, slotAt, idleSlot, withCom, withSlots}
 use Rattle.model.specs.Valid.{valid}
-use Rattle.model.specs.Calls.Rollback.{rolledBackCom}
+use Rattle.model.specs.Rollback.{rolledBackCom, rolledBack}
 use Rattle.model_types.proofs.Laws.Shape.{Shaped}
+use Rattle.model.proofs.Laws.Accepted.{Ready}
 use Rattle.model.proofs.Laws.Valid.{valid-parts, slot-below}
 use Rattle.bitops.specs.Combine.{rollbackWord, zip3}
 use Rattle.bitops.proofs.Laws.Combine.{rollback-bitmap}
+use Rattle.verdicts.proofs.Laws.Ready.{index-is, own-slot}
 
 -- the words combined are the bitmap of the definition
-pub rolled-com : (memory : Memory) (s : ℕ) → Shaped memory → valid memory ≡ true
+rolled-com : (memory : Memory) (s : ℕ) → Shaped memory → valid memory ≡ true
     → zip3 rollbackWord (memory .com .words) (memory .sam .words) (slotAt memory s .tam .words) ≡ rolledBackCom memory s .words
 unfolding rolledBackCom
 rolled-com memory s shape v =
     let parts = valid-parts memory v in
     rollback-bitmap (memory .blocks) (parts .few-blocks) (memory .com .words) (memory .sam .words) (slotAt memory s .tam .words)
     (shape .com) (shape .sam) (shape .tam s) (parts .com-below) (parts .sam-below) (slot-below memory s parts)
+
+-- COM and the slots put back, by what `roll_back` has made of them
+pub rolled-memory : {i : ℕ} {words : List ℕ} {idle : Slot} {«com» : Bitmap} {slots : List Slot} (memory : Memory) (d : Slot) (s : ℕ)
+    → Shaped memory
+    → Ready memory s
+    → IsSlot (slotIndex s) i
+    → words ≡ zip3 rollbackWord (memory .com .words) (memory .sam .words) (getD (memory .slots) i d .tam .words)
+    → idle ≡ idleSlot
+    → «com» ≡ bitmap words
+    → slots ≡ set (memory .slots) i idle
+    → withSlots (withCom memory «com») slots ≡ rolledBack memory s
+unfolding rolledBack
+rolled-memory memory d s shape ready index restored given com-is slots-are =
+    ap₂ (λ (x : Bitmap) (y : List Slot). withSlots (withCom memory x) y)
+    (com-is ∙ ap bitmap (restored
+    ∙ ap (λ (slot : Slot). zip3 rollbackWord (memory .com .words) (memory .sam .words) (slot .tam .words)) (own-slot memory d s shape index (ready .below))
+    ∙ rolled-com memory s shape (ready .is-valid)))
+    (slots-are ∙ ap₂ (set (memory .slots)) (index-is s index (ready .below)) given)

@@ -19,12 +19,13 @@ use Rattle.model.specs.Valid.{valid}
 use Rattle.model.specs.Causes.{memoryInvalid, nothingPending, workPending, slotOutOfRange, slotActive, slotInactive, slotPrecommitted, slotNotPrecommitted}
 use Rattle.model.specs.Calls.Start.{startError}
 use Rattle.model.specs.Calls.Precommit.{precommitError}
-use Rattle.model.specs.Calls.Rollback.{rollbackError}
 use Rattle.model.specs.Calls.Committing.{commitError}
+use Rattle.model.specs.Calls.Drop.{dropError}
+use Rattle.model.specs.Calls.Revoke.{revokeError}
 use Rattle.model_types.proofs.Laws.Shape.{Shaped, slot-read}
 use Rattle.verdicts.specs.declared.verdict.Verdict.{Verdict}
 use Rattle.verdicts.specs.Verdicts.{verdict}
-use Rattle.verdicts.specs.Ready.{readyCauses, idleCauses, activeCauses, openCauses, precommittedCauses}
+use Rattle.verdicts.specs.Ready.{readyCauses, idleCauses, openCauses, precommittedCauses}
 
 -- ---- the slot that a call looks at
 
@@ -75,10 +76,6 @@ module _ (memory : Memory) (s : ℕ) (state : SlotState) (read : slotInRange s �
   unfolding startError memoryInvalid workPending nothingPending slotOutOfRange slotActive
   idle-error = slot-causes (λ x. isActive x ⇒ SlotBusy ∷ [])
 
-  active-error : first (activeCauses (valid memory) (memory .pending) s state) ≡ rollbackError memory s
-  unfolding rollbackError memoryInvalid workPending nothingPending slotOutOfRange slotInactive slotActive
-  active-error = slot-causes (λ x. not (isActive x) ⇒ SlotIdle ∷ [])
-
   open-error : first (openCauses (valid memory) (memory .pending) s state) ≡ precommitError memory s
   unfolding precommitError memoryInvalid workPending nothingPending slotOutOfRange slotInactive slotActive slotPrecommitted
   open-error = slot-causes (λ x. not (isActive x) ⇒ SlotIdle ∷ isPrecommitted x ⇒ SlotPrecommitted ∷ [])
@@ -93,11 +90,17 @@ module _ {i : ℕ} {v : Verdict} {sound : Bool} (memory : Memory) (d : Slot) (s 
   pub idle-verdict : v ≡ verdict (first (idleCauses sound (memory .pending) s (getD (memory .slots) i d .state))) → v ≡ verdict (startError memory s)
   idle-verdict e = e ∙ rw tested (ap verdict (idle-error memory s _ (own-state memory d s shape index)))
 
-  pub active-verdict : v ≡ verdict (first (activeCauses sound (memory .pending) s (getD (memory .slots) i d .state))) → v ≡ verdict (rollbackError memory s)
-  active-verdict e = e ∙ rw tested (ap verdict (active-error memory s _ (own-state memory d s shape index)))
-
   pub open-verdict : v ≡ verdict (first (openCauses sound (memory .pending) s (getD (memory .slots) i d .state))) → v ≡ verdict (precommitError memory s)
   open-verdict e = e ∙ rw tested (ap verdict (open-error memory s _ (own-state memory d s shape index)))
 
   pub precommitted-verdict : v ≡ verdict (first (precommittedCauses sound (memory .pending) s (getD (memory .slots) i d .state))) → v ≡ verdict (commitError memory s)
   precommitted-verdict e = e ∙ rw tested (ap verdict (precommitted-error memory s _ (own-state memory d s shape index)))
+
+  -- the causes of a drop are those of a precommit, the causes of a revoke those of a commit
+  pub drop-verdict : v ≡ verdict (first (openCauses sound (memory .pending) s (getD (memory .slots) i d .state))) → v ≡ verdict (dropError memory s)
+  unfolding dropError precommitError
+  drop-verdict e = open-verdict e
+
+  pub revoke-verdict : v ≡ verdict (first (precommittedCauses sound (memory .pending) s (getD (memory .slots) i d .state))) → v ≡ verdict (revokeError memory s)
+  unfolding revokeError commitError
+  revoke-verdict e = precommitted-verdict e

@@ -137,8 +137,8 @@ value-requires-3 c κs = search needs
 enum-told-9 : tie.Need-enum-told-9 Inv-loop μ-loop
 enum-told-9 c = search needs
 
-rollback-requires : tie.Need-rollback-requires Inv-loop μ-loop
-rollback-requires c κs = search needs
+drop-requires : tie.Need-drop-requires Inv-loop μ-loop
+drop-requires c κs = search needs
 
 number-requires-8 : tie.Need-number-requires-8 Inv-loop μ-loop
 number-requires-8 c κs = search needs
@@ -146,29 +146,38 @@ number-requires-8 c κs = search needs
 enum-told-10 : tie.Need-enum-told-10 Inv-loop μ-loop
 enum-told-10 c = search needs
 
-store-requires : tie.Need-store-requires Inv-loop μ-loop
-store-requires c κs = search needs
+revoke-requires : tie.Need-revoke-requires Inv-loop μ-loop
+revoke-requires c κs = search needs
 
 number-requires-9 : tie.Need-number-requires-9 Inv-loop μ-loop
 number-requires-9 c κs = search needs
 
-value-requires-4 : tie.Need-value-requires-4 Inv-loop μ-loop
-value-requires-4 c κs = search needs
-
 enum-told-11 : tie.Need-enum-told-11 Inv-loop μ-loop
 enum-told-11 c = search needs
 
-status-requires : tie.Need-status-requires Inv-loop μ-loop
-status-requires c κs = search needs
+store-requires : tie.Need-store-requires Inv-loop μ-loop
+store-requires c κs = search needs
 
 number-requires-10 : tie.Need-number-requires-10 Inv-loop μ-loop
 number-requires-10 c κs = search needs
 
-value-requires-5 : tie.Need-value-requires-5 Inv-loop μ-loop
-value-requires-5 c κs = search needs
+value-requires-4 : tie.Need-value-requires-4 Inv-loop μ-loop
+value-requires-4 c κs = search needs
 
 enum-told-12 : tie.Need-enum-told-12 Inv-loop μ-loop
 enum-told-12 c = search needs
+
+status-requires : tie.Need-status-requires Inv-loop μ-loop
+status-requires c κs = search needs
+
+number-requires-11 : tie.Need-number-requires-11 Inv-loop μ-loop
+number-requires-11 c κs = search needs
+
+value-requires-5 : tie.Need-value-requires-5 Inv-loop μ-loop
+value-requires-5 c κs = search needs
+
+enum-told-13 : tie.Need-enum-told-13 Inv-loop μ-loop
+enum-told-13 c = search needs
 
 zero-requires : tie.Need-zero-requires Inv-loop μ-loop
 zero-requires c κs = search needs
@@ -215,7 +224,10 @@ stepped c =
     (λ (_, parsed, _, _, op, called, _, number, given, memory, disk, code, value).
     call-step (parsed .given .1) (op .given .1) (ap length disk)
     (answer-is storesNumber storesValue (memory ∙ called .ensures .1) disk (code ∙ number .ensures) (value ∙ given .ensures) (called .ensures .0)))
-    (⊎-elim  -- rollback
+    (⊎-elim  -- drop
+    (λ (_, parsed, _, _, op, called, _, number, memory, disk, code, value).
+    call-step (parsed .given .1) (op .given .1) (ap length disk) (answer-is doneNumber (λ _. 0) (memory ∙ called .ensures .1) disk (code ∙ number .ensures) value (called .ensures .0)))
+    (⊎-elim  -- revoke
     (λ (_, parsed, _, _, op, called, _, number, memory, disk, code, value).
     call-step (parsed .given .1) (op .given .1) (ap length disk) (answer-is doneNumber (λ _. 0) (memory ∙ called .ensures .1) disk (code ∙ number .ensures) value (called .ensures .0)))
     (⊎-elim  -- store
@@ -227,7 +239,7 @@ stepped c =
     call-step (parsed .given .1) (op .given .1) (ap length disk)
     (answer-is statusNumber statusValue (memory ∙ called .ensures .1) disk (code ∙ number .ensures) (value ∙ given .ensures) (called .ensures .0)))
     (λ (_, parsed, _, _, op, zeroed, memory, disk, code, value).  -- crash
-    call-step (parsed .given .1) (op .given .1) (ap length disk) (bench-is (memory ∙ zeroed .ensures) disk code value)))))))))))))
+    call-step (parsed .given .1) (op .given .1) (ap length disk) (bench-is (memory ∙ zeroed .ensures) disk code value))))))))))))))
     (c .match .came)
 
 print-answer-requires : tie.Need-print-answer-requires Inv-loop μ-loop
@@ -315,17 +327,20 @@ answer-lines-spec =
     number-requires-7
     value-requires-3
     enum-told-9
-    rollback-requires
+    drop-requires
     number-requires-8
     enum-told-10
-    store-requires
+    revoke-requires
     number-requires-9
-    value-requires-4
     enum-told-11
-    status-requires
+    store-requires
     number-requires-10
-    value-requires-5
+    value-requires-4
     enum-told-12
+    status-requires
+    number-requires-11
+    value-requires-5
+    enum-told-13
     zero-requires
     print-answer-requires
     add-number

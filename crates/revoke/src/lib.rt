@@ -1,0 +1,34 @@
+// Revoke: a precommitted slot's transaction is rolled back.
+ghost use mathlib.Core.Path.{_≡_};
+ghost use Rattle.model.specs.Calls.Revoke.{revokeAnswer, revokeMemory};
+use bitmap::Bitmap;
+use model_types::answer::Changed;
+use model_types::memory::Memory;
+use rollback::roll_back;
+use validity::valid;
+use verdicts::ready::precommitted;
+
+// Rolls back a precommitted slot. Refused, the memory stays.
+pub fn revoke(mut memory: Memory, slot: u32) -> Changed
+    ensures answers { λ r. ⌜ r .answer ≡ revokeAnswer memory slot ⌝ }
+    ensures leaves { λ r. ⌜ r .memory ≡ revokeMemory memory slot ⌝ }
+{
+    let sam = memory.sam;
+    let mut com = memory.com;
+    let mut slots = memory.slots;
+    let pending = memory.pending;
+    let owner = slots[pending.owner()];
+    let sound = valid(memory.blocks, &sam.words, &com.words, slots, pending, owner);
+    let at = Bitmap::slot_index(slot);
+    let own = slots[at];
+    let state = own.state;
+    let verdict = precommitted(sound, pending, slot, state);
+    let answer = verdict.answer();
+    if verdict.is_accepted() {
+        let idle = roll_back(&mut com.words, &sam.words, &own.tam.words);
+        slots[at] = idle;
+    }
+    memory.com = com;
+    memory.slots = slots;
+    Changed { answer, memory }
+}
