@@ -45,7 +45,7 @@ granting-keeps : (w : World) (s count : ℕ) (blocks list : List ℕ) (error : O
     (w .ledger)))
 unfolding entered
 granting-keeps w s count blocks list error grants i =
-    memory-keeps w error (taking (w .memory) s blocks) _ (grant-number error (getD blocks 0 0)) i
+    memory-keeps Invariant w error (taking (w .memory) s blocks) _ (grant-number error (getD blocks 0 0)) i
     (λ e.
     let g = grants e in
     subst (λ (l : List ℕ). Invariant (worldOf (taking (w .memory) s blocks) (w .disk) (takes (w .ledger) s l)))

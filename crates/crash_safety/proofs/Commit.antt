@@ -137,5 +137,5 @@ module _ (w : World) (s : ℕ) (i : Invariant w) (a : CommitAccepted (w .memory)
 pub commit-keeps : (w : World) (s : ℕ) → Invariant w → Invariant (step (commitCall s) w)
 unfolding step events enterAll outcome entered commitMemory commitAnswer
 commit-keeps w s i =
-    memory-keeps w (commitError (w .memory) s) (committing (w .memory) s) _ (stores-number (commitError (w .memory) s) (commitDue (w .memory) s)) i
+    memory-keeps Invariant w (commitError (w .memory) s) (committing (w .memory) s) _ (stores-number (commitError (w .memory) s) (commitDue (w .memory) s)) i
     (λ e. committing-keeps w s i (commit-accepted (w .memory) s e))

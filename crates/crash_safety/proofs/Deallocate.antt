@@ -72,7 +72,7 @@ none-from memory s block parts b h =
 pub deallocate-keeps : (w : World) (s block : ℕ) → Invariant w → Invariant (step (deallocateCall s block) w)
 unfolding step events enterAll outcome entered deallocateMemory deallocateAnswer frees freeing
 deallocate-keeps w s block i =
-    memory-keeps w (deallocateError (w .memory) s block) (freeing (w .memory) s block) _ (done-number (deallocateError (w .memory) s block)) i
+    memory-keeps Invariant w (deallocateError (w .memory) s block) (freeing (w .memory) s block) _ (done-number (deallocateError (w .memory) s block)) i
     (λ e.
     let a = deallocate-accepted (w .memory) s block e in
     let parts = valid-parts (w .memory) (a .ready .is-valid) in

@@ -23,7 +23,7 @@ precommitted-tie sam slot sets active tie =
 pub precommit-keeps : (w : World) (s : ℕ) → Invariant w → Invariant (step (precommitCall s) w)
 unfolding step events enterAll outcome entered precommitMemory precommitAnswer precommitting
 precommit-keeps w s i =
-    memory-keeps w (precommitError (w .memory) s) (precommitting (w .memory) s) _ (done-number (precommitError (w .memory) s)) i
+    memory-keeps Invariant w (precommitError (w .memory) s) (precommitting (w .memory) s) _ (done-number (precommitError (w .memory) s)) i
     (λ e.
     let a = precommit-accepted (w .memory) s e in
     touching-alone w s i (a .ready) (withState (slotAt (w .memory) s) Precommitted)

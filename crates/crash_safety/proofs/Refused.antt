@@ -1,4 +1,5 @@
--- A refused call alters nothing, so a call keeps the invariant if it does where it is accepted.
+-- A refused call alters nothing, so what held before a call holds after it if it does where the call is accepted: the invariant,
+-- or whatever else.
 use Prim.Native.Nat.{ℕ}
 use mathlib.Core.Path.{_≡_, refl, sym, ap, _∙_, subst}
 use mathlib.Core.Bool.{Bool, true, false, cond}
@@ -13,10 +14,9 @@ use Rattle.model.proofs.Laws.Numbers.{numberOf, code-positive}
 use Rattle.model.specs.Outcome.{Outcome}
 use Rattle.crash_safety.specs.Ledger.{Event, Ledger, enter, entered, enterAll, asking}
 use Rattle.crash_safety.specs.World.{World, worldOf, eventOf}
-use Rattle.crash_safety.proofs.Invariant.{Invariant}
 
 -- what an event alters where its call is accepted
-abbrev alters : Event → Ledger → Ledger
+abbrev pub alters : Event → Ledger → Ledger
 alters event ledger = entered (event .kind) (event .slot) (event .block) (event .listed) ledger
 
 -- the ledger after a refused call, and after an accepted one
@@ -39,16 +39,16 @@ asked-nothing s after ledger = either-way (eqb (after .number) 0)
     either-way false = refl
 
 -- a call on memory and disk
-pub call-keeps : (w : World) (error : Option Error) (memory : Memory) (disk : List ℕ) (event : Event)
+pub call-keeps : (P : World → Type 0) (w : World) (error : Option Error) (memory : Memory) (disk : List ℕ) (event : Event)
     → event .answer ≡ numberOf error
-    → Invariant w
-    → (error ≡ none → Invariant (worldOf memory disk (alters event (w .ledger))))
-    → Invariant (worldOf (unlessRefused error memory (w .memory)) (unlessRefused error disk (w .disk)) (enter event (w .ledger)))
+    → P w
+    → (error ≡ none → P (worldOf memory disk (alters event (w .ledger))))
+    → P (worldOf (unlessRefused error memory (w .memory)) (unlessRefused error disk (w .disk)) (enter event (w .ledger)))
 unfolding unlessRefused
-call-keeps w none memory disk event e i h =
-    subst (λ (l : Ledger). Invariant (worldOf memory disk l)) (sym (enter-accepted event (w .ledger) e)) (h refl)
-call-keeps w (some error) memory disk event e i h =
-    subst (λ (l : Ledger). Invariant (worldOf (w .memory) (w .disk) l)) (sym (enter-refused event (w .ledger) error e)) i
+call-keeps P w none memory disk event e i h =
+    subst (λ (l : Ledger). P (worldOf memory disk l)) (sym (enter-accepted event (w .ledger) e)) (h refl)
+call-keeps P w (some error) memory disk event e i h =
+    subst (λ (l : Ledger). P (worldOf (w .memory) (w .disk) l)) (sym (enter-refused event (w .ledger) error e)) i
 
 same-either : (error : Option Error) (disk : List ℕ) → unlessRefused error disk disk ≡ disk
 unfolding unlessRefused
@@ -56,13 +56,13 @@ same-either none disk = refl
 same-either (some error) disk = refl
 
 -- a call on memory alone
-pub memory-keeps : (w : World) (error : Option Error) (memory : Memory) (event : Event)
+pub memory-keeps : (P : World → Type 0) (w : World) (error : Option Error) (memory : Memory) (event : Event)
     → event .answer ≡ numberOf error
-    → Invariant w
-    → (error ≡ none → Invariant (worldOf memory (w .disk) (alters event (w .ledger))))
-    → Invariant (worldOf (unlessRefused error memory (w .memory)) (w .disk) (enter event (w .ledger)))
-memory-keeps w error memory event e i h =
+    → P w
+    → (error ≡ none → P (worldOf memory (w .disk) (alters event (w .ledger))))
+    → P (worldOf (unlessRefused error memory (w .memory)) (w .disk) (enter event (w .ledger)))
+memory-keeps P w error memory event e i h =
     subst
-    (λ (disk : List ℕ). Invariant (worldOf (unlessRefused error memory (w .memory)) disk (enter event (w .ledger))))
+    (λ (disk : List ℕ). P (worldOf (unlessRefused error memory (w .memory)) disk (enter event (w .ledger))))
     (same-either error (w .disk))
-    (call-keeps w error memory (w .disk) event e i h)
+    (call-keeps P w error memory (w .disk) event e i h)

@@ -30,7 +30,7 @@ use Rattle.model.specs.Calls.Committing.{committing, commitMemory, commitAnswer
 use Rattle.model.specs.Rollback.{rolledBack}
 use Rattle.model.specs.Calls.Drop.{dropMemory, dropAnswer}
 use Rattle.model.specs.Calls.Revoke.{revokeMemory, revokeAnswer}
-use Rattle.model.specs.Calls.Storing.{advanced, storeMemory, storeAnswer}
+use Rattle.model.specs.Calls.Storing.{advanced, storeMemory, storeDisk, storeAnswer}
 use Rattle.model.specs.Calls.Format.{formatDisk}
 use Rattle.model.specs.Outcome.{Call, Outcome, outcome, openCall, startCall, allocateCall, allocateExtentCall, deallocateCall, precommitCall, commitCall, dropCall, revokeCall, storeCall, statusCall, commitCostCall, crashCall}
 use Rattle.model.proofs.Laws.Numbers.{numberOf, done-number, grant-number, stores-number}
@@ -41,7 +41,7 @@ use Rattle.crash_safety.specs.Ledger.{Event, Sets, noSets, Ledger, setsO
 use Rattle.crash_safety.specs.World.{World, worldOf, begin, eventOf, events, step, run}
 use Rattle.crash_safety.specs.RevokeAlone.{Waiting, Spares, AllSpare, RevokeAlone}
 use Rattle.crash_safety.proofs.Invariant.{PendingTied, Invariant, countingOf}
-use Rattle.crash_safety.proofs.Refused.{enter-accepted, enter-refused, asked-nothing}
+use Rattle.crash_safety.proofs.Refused.{alters, call-keeps, memory-keeps, asked-nothing}
 use Rattle.crash_safety.proofs.Keeps.{step-keeps, run-keeps, begins-formatted}
 
 -- what holds of both holds of either
@@ -143,33 +143,21 @@ module _ (s : ℕ) (sets : Sets) (w : World) (waits : Waiting s sets w) where
         either Waits (eqb (done + 1) due) (committed-waits t (λ e. elsewhere done due (cc)))
         (pending-waits (Commit t (done + 1) due) (λ _ _ e. elsewhere done due (cc)))
 
-  -- what an event alters where its call is accepted
-  abbrev altered : Event → Ledger
-  altered event = entered (event .kind) (event .slot) (event .block) (event .listed) (w .ledger)
-
-  -- a refused call alters nothing
-  unless-waits : (error : Option Error) (memory : Memory) (disk : List ℕ) (event : Event) → event .answer ≡ numberOf error
-      → (error ≡ none → Waiting s sets (worldOf memory disk (altered event)))
-      → Waiting s sets (worldOf (unlessRefused error memory (w .memory)) disk (enter event (w .ledger)))
-  unfolding unlessRefused
-  unless-waits none memory disk event number accepted = rw (enter-accepted event (w .ledger) number) (accepted refl)
-  unless-waits (some error) memory disk event number accepted =
-      rw (enter-refused event (w .ledger) error number) (pending-waits disk (w .ledger) refl (w .memory .pending) (waits .not-committing))
-
   -- an accepted call of another slot changes that slot, COM and that slot's sets
   call-waits : (t : ℕ) (error : Option Error) (slot : Slot) («com» : Bitmap) (event : Event) → event .answer ≡ numberOf error
-      → ((s ≡ t → ⊥) → SameSets (w .ledger) s (altered event))
+      → ((s ≡ t → ⊥) → SameSets (w .ledger) s (alters event (w .ledger)))
       → (error ≡ none → s ≡ t → ⊥)
       → Waiting s sets (worldOf (unlessRefused error (withSlot (withCom (w .memory) «com») t slot) (w .memory)) (w .disk) (enter event (w .ledger)))
   call-waits t error slot «com» event number same other =
-      unless-waits error _ (w .disk) event number (λ e. changed-waits (w .disk) (altered event) (same (other e)) t (other e) slot «com»)
+      memory-keeps (Waiting s sets) w error _ event number waits
+      (λ e. changed-waits (w .disk) (alters event (w .ledger)) (same (other e)) t (other e) slot «com»)
 
   -- a question
   asked-waits : (t : ℕ) (after : Outcome) → Waiting s sets (worldOf (w .memory) (w .disk) (enterAll (eventOf asking t 0 after ∷ []) (w .ledger)))
   asked-waits t after = rw (asked-nothing t after (w .ledger)) waits
 
   step-waits : Invariant w → (call : Call) → Spares s call → Waiting s sets (step call w)
-  unfolding step events enterAll outcome entered startMemory startAnswer started allocateMemory allocateAnswer allocateExtentMemory allocateExtentAnswer taking takes deallocateMemory deallocateAnswer freeing frees precommitMemory precommitAnswer precommitting commitMemory commitAnswer dropMemory dropAnswer revokeMemory revokeAnswer rolledBack storeMemory storeAnswer
+  unfolding step events enterAll outcome entered startMemory startAnswer started allocateMemory allocateAnswer allocateExtentMemory allocateExtentAnswer taking takes deallocateMemory deallocateAnswer freeing frees precommitMemory precommitAnswer precommitting commitMemory commitAnswer dropMemory dropAnswer revokeMemory revokeAnswer rolledBack storeMemory storeDisk storeAnswer
   step-waits i openCall spares = absurd (spares .no-open refl)
   step-waits i crashCall spares = absurd (spares .no-crash refl)
   step-waits i (startCall t) spares =
@@ -192,10 +180,10 @@ module _ (s : ℕ) (sets : Sets) (w : World) (waits : Waiting s sets w) where
   step-waits i (revokeCall t) spares =
       call-waits t _ _ _ _ (done-number _) (set-same (w .ledger) s t _) (λ _ own. spares .no-revoke (ap revokeCall (sym own)))
   step-waits i (commitCall t) spares =
-      unless-waits _ _ _ _ (stores-number _ _)
+      memory-keeps (Waiting s sets) w _ _ _ (stores-number _ _) waits
       (λ _. committing-waits _ _ (counts-same (w .ledger) s t) t (λ own. spares .no-commit (ap commitCall (sym own))))
   step-waits i storeCall spares =
-      unless-waits _ _ _ _ (stores-number _ _)
+      call-keeps (Waiting s sets) w _ _ _ _ (stores-number _ _) waits
       (λ e.
       let related = i .related (store-accepted (w .memory) (w .disk) e .is-valid) in
       let same = stores-same (w .ledger) s (w .memory) (w .memory .pending) (related .pending) (waits .not-committing) in

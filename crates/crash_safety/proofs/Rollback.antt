@@ -41,7 +41,7 @@ rolling-keeps : (w : World) (s : ℕ) (error : Option Error)
     (enter (record { kind = rolling; slot = s; block = 0; answer = doneNumber (done error); listed = [] }) (w .ledger)))
 unfolding entered rolledBack
 rolling-keeps w s error accepted i =
-    memory-keeps w error (rolledBack (w .memory) s) _ (done-number error) i
+    memory-keeps Invariant w error (rolledBack (w .memory) s) _ (done-number error) i
     (λ e.
     let a = accepted e in
     touching w s i (a .ready) idleSlot (rolledBackCom (w .memory) s) noSets (idle-tie (samBit (w .memory)))

@@ -36,7 +36,7 @@ new-tie sam slot new sets idle copy active tie =
 pub start-keeps : (w : World) (s : ℕ) → Invariant w → Invariant (step (startCall s) w)
 unfolding step events enterAll outcome entered startMemory startAnswer started
 start-keeps w s i =
-    memory-keeps w (startError (w .memory) s) (started (w .memory) s) _ (done-number (startError (w .memory) s)) i
+    memory-keeps Invariant w (startError (w .memory) s) (started (w .memory) s) _ (done-number (startError (w .memory) s)) i
     (λ e.
     let a = start-accepted (w .memory) s e in
     let copy : Slot = withState (withTam (slotAt (w .memory) s) (w .memory .sam)) Open in

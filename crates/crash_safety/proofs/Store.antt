@@ -49,7 +49,7 @@ by-pending w i v size (Recovery k due) e valid-pending matching tied =
 pub store-keeps : (w : World) → Invariant w → Invariant (step storeCall w)
 unfolding step events enterAll outcome entered storeMemory storeDisk storeAnswer nextStored
 store-keeps w i =
-    call-keeps w (storeError (w .memory) (w .disk)) (advanced (w .memory) (w .memory .pending)) (nextStored (w .memory) (w .disk)) _
+    call-keeps Invariant w (storeError (w .memory) (w .disk)) (advanced (w .memory) (w .memory .pending)) (nextStored (w .memory) (w .disk)) _
     (stores-number (storeError (w .memory) (w .disk)) (stillDue (w .memory .pending))) i
     (λ e.
     let a = store-accepted (w .memory) (w .disk) e in
