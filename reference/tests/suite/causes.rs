@@ -291,7 +291,35 @@ fn cause_21_line_not_in_form() {
         assert_eq!(bench.run(line.as_bytes()), Err(Error::MalformedLine));
         assert_eq!((&bench.memory, bench.disk, bench.list), (&memory, disk, list));
     }
-    assert_eq!(Error::MalformedLine.code(), 21);
+}
+
+#[test]
+fn the_numbers_of_the_causes() {
+    let errors = [
+        Error::InvalidMemory,
+        Error::DiskLength,
+        Error::DiskBlockCount,
+        Error::DiskBitmap,
+        Error::DiskLog,
+        Error::DiskMismatch,
+        Error::BlockCount,
+        Error::WorkPending,
+        Error::NothingPending,
+        Error::SlotNumber,
+        Error::SlotNotIdle,
+        Error::SlotIdle,
+        Error::SlotPrecommitted,
+        Error::SlotNotPrecommitted,
+        Error::Count,
+        Error::ListLength,
+        Error::TooFewAvailable,
+        Error::BlockNumber,
+        Error::BlockNotAllocated,
+        Error::BlockAlreadyFreed,
+        Error::MalformedLine,
+        Error::NoExtent,
+    ];
+    assert!(errors.map(Error::code).into_iter().eq(1..=22));
 }
 
 #[test]

@@ -1,26 +1,18 @@
 //! The commit cost as document 02 says it, one block at a time.
 
 use crate::counts::counts_by_blocks;
-use reference::{Error, Memory, Pending, Slot, SlotState};
+use crate::slots::ready_slot;
+use reference::{Error, Memory, Slot, SlotState};
 
 /// What commit cost is to answer: its causes in number order, then its number.
 pub fn cost_by_blocks(memory: &Memory, slot: u32, count: u32) -> Result<u32, Error> {
-    let refused = |error| Err(error);
-    if !memory.is_valid() {
-        return refused(Error::InvalidMemory);
-    }
-    if memory.pending != Pending::Nothing {
-        return refused(Error::WorkPending);
-    }
-    let Some(slot) = memory.slots.get(slot as usize) else {
-        return refused(Error::SlotNumber);
-    };
+    let slot = ready_slot(memory, slot)?;
     match slot.state {
-        SlotState::Idle => refused(Error::SlotIdle),
-        SlotState::Precommitted => refused(Error::SlotPrecommitted),
-        SlotState::Open if count > 64 => refused(Error::Count),
+        SlotState::Idle => Err(Error::SlotIdle),
+        SlotState::Precommitted => Err(Error::SlotPrecommitted),
+        SlotState::Open if count > 64 => Err(Error::Count),
         SlotState::Open if counts_by_blocks(memory).available < count => {
-            refused(Error::TooFewAvailable)
+            Err(Error::TooFewAvailable)
         }
         SlotState::Open => Ok(stores(touched_by_blocks(memory, slot) + count, memory.blocks)),
     }

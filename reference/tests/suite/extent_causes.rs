@@ -164,22 +164,6 @@ fn the_first_cause_where_all_later_ones_hold() {
 }
 
 #[test]
-fn their_numbers() {
-    let errors = [
-        Error::InvalidMemory,
-        Error::WorkPending,
-        Error::SlotNumber,
-        Error::SlotIdle,
-        Error::SlotPrecommitted,
-        Error::Count,
-        Error::ListLength,
-        Error::BlockNumber,
-        Error::NoExtent,
-    ];
-    assert_eq!(errors.map(Error::code), [1, 8, 10, 12, 13, 15, 16, 18, 22]);
-}
-
-#[test]
 fn the_disk_is_not_read() {
     let mut state = State::busy();
     state.disk.clear();

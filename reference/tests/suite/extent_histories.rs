@@ -12,10 +12,10 @@ use reference::Pending;
 
 const LINES: usize = 10_000;
 /// Seeds and block counts.
-const HISTORIES: [(u64, u32); 7] =
+pub const HISTORIES: [(u64, u32); 7] =
     [(1, 0), (2, 0), (3, 0), (4, 33), (5, 200), (6, 1000), (7, 4096)];
 
-fn history(
+pub fn history(
     seed: u64,
     blocks: u32,
     malformed: bool,

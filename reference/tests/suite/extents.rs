@@ -1,7 +1,8 @@
 //! Allocate extent as document 02 says it, one block at a time.
 
+use crate::slots::ready_slot;
 use reference::inspector::Inspector;
-use reference::{Bitmap, Error, Memory, Pending, SlotState};
+use reference::{Bitmap, Error, Memory, SlotState};
 
 /// The arguments of an extent.
 #[derive(Clone, Copy, Debug)]
@@ -15,16 +16,7 @@ pub struct Asked {
 /// number order, then 18 and 22, then its first block.
 pub fn extent_by_blocks(memory: &Memory, places: usize, asked: Asked) -> Result<u32, Error> {
     let Asked { slot, count, near } = asked;
-    if !memory.is_valid() {
-        return Err(Error::InvalidMemory);
-    }
-    if memory.pending != Pending::Nothing {
-        return Err(Error::WorkPending);
-    }
-    let Some(slot) = memory.slots.get(slot as usize) else {
-        return Err(Error::SlotNumber);
-    };
-    match slot.state {
+    match ready_slot(memory, slot)?.state {
         SlotState::Idle => Err(Error::SlotIdle),
         SlotState::Precommitted => Err(Error::SlotPrecommitted),
         SlotState::Open if count == 0 || count > 64 => Err(Error::Count),

@@ -36,6 +36,7 @@ mod rollback_causes;
 mod rollback_observer;
 mod rollback_sequences;
 mod rollbacks;
+mod slots;
 mod state;
 mod status;
 mod status_histories;

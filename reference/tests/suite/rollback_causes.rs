@@ -146,19 +146,6 @@ fn a_state_changed_to_one_that_is_not_valid_has_cause_1_first() {
 }
 
 #[test]
-fn their_numbers() {
-    let errors = [
-        Error::InvalidMemory,
-        Error::WorkPending,
-        Error::SlotNumber,
-        Error::SlotIdle,
-        Error::SlotPrecommitted,
-        Error::SlotNotPrecommitted,
-    ];
-    assert_eq!(errors.map(Error::code), [1, 8, 10, 12, 13, 14]);
-}
-
-#[test]
 fn the_disk_is_not_read() {
     let mut state = State::busy();
     state.disk.clear();

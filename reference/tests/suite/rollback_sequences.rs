@@ -1,26 +1,14 @@
 //! The random sequences make drops and revokes of every kind: accepted ones, and each on a slot that
 //! the other serves, many of them while other slots have touched something.
 
+use crate::extent_histories::{history, HISTORIES};
 use crate::rollback_observer::{SeenCalls, SeenRollbacks};
 use reference::damage::Damage;
 use reference::extents::Extents;
-use reference::history::{History, Shape};
 use reference::inspector::Inspector;
 use reference::line::parse;
 
 const LINES: usize = 12_000;
-/// Seeds and block counts.
-const HISTORIES: [(u64, u32); 7] =
-    [(1, 0), (2, 0), (3, 0), (4, 33), (5, 200), (6, 1000), (7, 4096)];
-
-fn history(
-    seed: u64,
-    blocks: u32,
-    malformed: bool,
-    extents: bool,
-) -> impl Iterator<Item = Vec<u8>> {
-    History::new(seed, Shape { blocks, malformed, reformats: true, extents }).unwrap()
-}
 
 /// Runs lines and checks each drop and each revoke.
 fn observe(lines: impl Iterator<Item = Vec<u8>>) -> SeenRollbacks {

@@ -1,23 +1,15 @@
 //! Drop and revoke as document 02 says them (job 5), one block at a time.
 
+use crate::slots::ready_slot;
 use reference::line::Operation;
-use reference::{drop, revoke, Error, Memory, Pending, Slot, SlotState};
+use reference::{drop, revoke, Error, Memory, Slot, SlotState};
 
 /// The two calls.
 pub const BOTH: [Operation; 2] = [Operation::Drop, Operation::Revoke];
 
 /// What a drop or a revoke is to answer: rollback's causes in number order, then its own.
 pub fn answer_by_words(memory: &Memory, operation: Operation, slot: u32) -> Result<(), Error> {
-    if !memory.is_valid() {
-        return Err(Error::InvalidMemory);
-    }
-    if memory.pending != Pending::Nothing {
-        return Err(Error::WorkPending);
-    }
-    let Some(slot) = memory.slots.get(slot as usize) else {
-        return Err(Error::SlotNumber);
-    };
-    match (operation, slot.state) {
+    match (operation, ready_slot(memory, slot)?.state) {
         (_, SlotState::Idle) => Err(Error::SlotIdle),
         (Operation::Drop, SlotState::Precommitted) => Err(Error::SlotPrecommitted),
         (Operation::Revoke, SlotState::Open) => Err(Error::SlotNotPrecommitted),

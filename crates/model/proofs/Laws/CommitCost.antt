@@ -2,8 +2,8 @@
 use Prim.Native.Nat.{ℕ, _+_, _≤_, _<_, min}
 use native.Mathlib.Nat.{le-min, min-le-right}
 use native.Mathlib.Omega.{arith}
-use mathlib.Core.Path.{_≡_, refl, sym, ap, _∙_}
-use mathlib.Core.Bool.{Bool, true, false, cond, false≢true}
+use mathlib.Core.Path.{_≡_, refl, ap, _∙_}
+use mathlib.Core.Bool.{Bool, true, false, cond}
 use mathlib.Core.Option.{Option}
 use mathlib.Core.List.{List}
 use lib.ListN.{length, getD}
@@ -11,7 +11,7 @@ use lib.Seq.{length-take-le}
 use lib.Dec.{eqb}
 use borrow.Author.Tests.{eqb-false, eq-eqb, ne-eqb}
 use Rattle.bitmap.specs.Bits.{IsBitmap}
-use Rattle.model.specs.Types.{Error, SlotState, Idle, Open, Precommitted, Slot, Memory, GrantAnswer}
+use Rattle.model.specs.Types.{Error, Precommitted, Slot, Memory, GrantAnswer}
 use Rattle.model_types.specs.Answers.{due, done}
 use Rattle.model_types.specs.Pending.{storesFor}
 use Rattle.model_types.specs.Memory.{slotAt, withState, isActive, isPrecommitted, volumeWords}
@@ -26,7 +26,7 @@ use Rattle.model.specs.Calls.Status.{counts}
 use Rattle.model.specs.Calls.CommitCost.{commitCostError, touchedBlocks, costFor, commitCost, commitCostAnswer}
 use Rattle.model.specs.FourCounts.{Eligible}
 use Rattle.model.specs.CostKept.{CommitsWithin, CommitCostKept, CommitCostAnswered, CommitCostAtMost}
-use Rattle.model.proofs.Laws.Fields.{slot-same, active-there}
+use Rattle.model.proofs.Laws.Fields.{open-state, slot-same, active-there}
 use Rattle.model.proofs.Laws.Answered.{due-answered, grant-answered}
 use Rattle.model.proofs.Laws.Valid.{ValidParts, valid-parts, parts-valid}
 use Rattle.model.proofs.Laws.Accepted.{PrecommitAccepted, CommitAccepted, accepted-precommit, accepted-commit, CommitCostAccepted, commit-cost-accepted, accepted-commit-cost}
@@ -109,12 +109,6 @@ module _ (memory : Memory) (s blocks : ℕ) (a : PrecommitAccepted memory s) (is
       }
 
 -- ---- the promise
-
--- a slot that is active and not precommitted is open
-open-state : (state : SlotState) → isActive state ≡ true → isPrecommitted state ≡ false → state ≡ Open
-open-state Idle e f = absurd (false≢true e)
-open-state Open e f = refl
-open-state Precommitted e f = absurd (false≢true (sym f))
 
 module _ (memory : Memory) (s count : ℕ) (is : IsBitmap (memory .sam .words)) (a : CommitCostAccepted memory s count) where
   parts : ValidParts memory

@@ -1,14 +1,14 @@
 -- What drop and revoke promise (specs/DropRevoke.antt).
 use Prim.Native.Nat.{ℕ, _<_}
 use mathlib.Core.Path.{_≡_, refl, sym, ap, _∙_}
-use mathlib.Core.Bool.{true, false, false≢true}
+use mathlib.Core.Bool.{true, false≢true}
 use mathlib.Core.Option.{Option, none, some}
 use borrow.Author.Tests.{lt-ltb}
 use Rattle.bitmap.specs.Sizes.{slotCount, slotInRange}
 use Rattle.model.specs.Types.{Error, SlotState, Idle, Open, Precommitted, Nothing, Memory}
 use Rattle.model.specs.First.{first, firstOr, unlessRefused}
 use Rattle.model_types.specs.Answers.{done}
-use Rattle.model_types.specs.Memory.{slotAt, idleSlot, isActive, isPrecommitted, withCom}
+use Rattle.model_types.specs.Memory.{slotAt, idleSlot, isPrecommitted, withCom}
 use Rattle.model_types.specs.Pending.{isNothing}
 use Rattle.model.specs.Causes.{memoryInvalid, nothingPending, workPending, slotOutOfRange, slotActive, slotInactive, slotPrecommitted, slotNotPrecommitted}
 use Rattle.model.specs.Valid.{valid}
@@ -16,7 +16,7 @@ use Rattle.model.specs.Rollback.{rolledBackCom, rolledBack}
 use Rattle.model.specs.Calls.Drop.{dropError, dropAnswer, dropMemory}
 use Rattle.model.specs.Calls.Revoke.{revokeError, revokeAnswer, revokeMemory}
 use Rattle.model.specs.DropRevoke.{RollsBack, DropEndsOpen, RevokeEndsPrecommitted, DropSparesPrecommitted, RevokeSparesOpen, dropFor, revokeFor, AnswersByState}
-use Rattle.model.proofs.Laws.Fields.{active-there, slot-same, slot-other}
+use Rattle.model.proofs.Laws.Fields.{open-state, precommitted-state, active-there, slot-same, slot-other}
 use Rattle.model.proofs.Laws.Answered.{done-answered}
 use Rattle.model.proofs.Laws.Accepted.{RollbackAccepted, drop-accepted, drop-rolls-back, revoke-accepted, revoke-rolls-back}
 use Rattle.model.proofs.Laws.Valid.{valid-parts}
@@ -36,22 +36,12 @@ rolls-back memory s a =
       same-pending = refl;
     }
 
-is-open : (state : SlotState) → isActive state ≡ true → isPrecommitted state ≡ false → state ≡ Open
-is-open Idle a p = absurd (false≢true a)
-is-open Open a p = refl
-is-open Precommitted a p = absurd (false≢true (sym p))
-
-is-precommitted : (state : SlotState) → isPrecommitted state ≡ true → state ≡ Precommitted
-is-precommitted Idle p = absurd (false≢true p)
-is-precommitted Open p = absurd (false≢true p)
-is-precommitted Precommitted p = refl
-
 pub drop-ends-open : DropEndsOpen
 unfolding dropAnswer dropMemory unlessRefused
 drop-ends-open memory s e =
     let accepted : dropError memory s ≡ none = done-answered _ e in
     let a = drop-accepted memory s accepted in
-    rw accepted (record { meant = is-open _ (a .active) (a .not-precommitted); rolls-back = rolls-back memory s (drop-rolls-back memory s accepted) })
+    rw accepted (record { meant = open-state _ (a .active) (a .not-precommitted); rolls-back = rolls-back memory s (drop-rolls-back memory s accepted) })
 
 pub revoke-ends-precommitted : RevokeEndsPrecommitted
 unfolding revokeAnswer revokeMemory unlessRefused
@@ -59,7 +49,7 @@ revoke-ends-precommitted memory s e =
     let accepted : revokeError memory s ≡ none = done-answered _ e in
     rw accepted
     (record {
-      meant = is-precommitted _ (revoke-accepted memory s accepted .precommitted);
+      meant = precommitted-state _ (revoke-accepted memory s accepted .precommitted);
       rolls-back = rolls-back memory s (revoke-rolls-back memory s accepted);
     })
 
