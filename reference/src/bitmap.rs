@@ -33,6 +33,11 @@ impl Bitmap {
         }
     }
 
+    /// The word that holds this block, and its bits from this block on.
+    pub fn from_block(block: u32) -> (usize, u32) {
+        ((block / Bitmap::WORD_BITS) as usize, u32::MAX << (block % Bitmap::WORD_BITS))
+    }
+
     /// Whether all bits from block number `blocks` on are 0.
     pub fn fits(&self, blocks: u32) -> bool {
         let whole_words = (blocks / Bitmap::WORD_BITS) as usize;

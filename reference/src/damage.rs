@@ -35,7 +35,7 @@ use std::collections::VecDeque;
 
 const NEW_VOLUME_IN: u32 = 80;
 const WIDE_WORK_IN: u32 = 800;
-const MALFORMED_IN: u32 = 19;
+const MALFORMED_IN: u32 = 17;
 const STEPS_IN: u32 = 4;
 const MOST_STEPS: u32 = 4;
 /// One in this many steps of pending work isn't a store.

@@ -65,6 +65,7 @@ impl Inspector {
                 self.disk.resize(at_most(words, MAX_DISK_WORDS)?, 0);
             }
             TestLine::Blocks { blocks } => memory.blocks = blocks,
+            TestLine::Cursor { block } => memory.cursor = block,
             TestLine::Sam { index, word } => *memory.sam.words.get_mut(index as usize)? = word,
             TestLine::Com { index, word } => *memory.com.words.get_mut(index as usize)? = word,
             TestLine::Tam { slot, index, word } => {

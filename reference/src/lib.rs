@@ -1,4 +1,4 @@
-//! A second block allocator, written from document 01 and from jobs 1, 2, 4 and 5 of document 02
+//! A second block allocator, written from document 01 and from jobs 1, 2, 4, 5 and 6 of document 02
 //! alone, against which another one is compared.
 
 mod agreement;

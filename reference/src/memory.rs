@@ -29,10 +29,12 @@ pub enum Pending {
     Recovery { done: u32, due: u32 },
 }
 
-/// What the allocator keeps between calls. `blocks` is m.
+/// What the allocator keeps between calls. `blocks` is m, `cursor` the block to be searched first
+/// (document 02, job 6).
 #[derive(Clone, PartialEq, Eq, Debug)]
 pub struct Memory {
     pub blocks: u32,
+    pub cursor: u32,
     pub sam: Bitmap,
     pub com: Bitmap,
     pub slots: [Slot; Memory::SLOTS],
@@ -45,9 +47,16 @@ impl Memory {
     /// The memory of zeros, which a crash leaves. Its m is 0, so it isn't valid.
     pub const ZEROS: Memory = Memory::opened(0, Bitmap::EMPTY, Pending::Nothing);
 
-    /// The memory that an open gives: all slots idle, COM equal to SAM.
+    /// The memory that an open gives: all slots idle, COM equal to SAM, the search from block 0 on.
     pub const fn opened(blocks: u32, sam: Bitmap, pending: Pending) -> Memory {
-        Memory { blocks, sam, com: sam, slots: [Slot::IDLE; Memory::SLOTS], pending }
+        Memory { blocks, cursor: 0, sam, com: sam, slots: [Slot::IDLE; Memory::SLOTS], pending }
+    }
+
+    /// The next search carries on after this block, the last one granted: from the next one on, or
+    /// from block 0 after the last of the volume.
+    pub fn carry_on_after(&mut self, granted: u32) {
+        let next = granted + 1;
+        self.cursor = if next == self.blocks { 0 } else { next };
     }
 
     /// The slots that aren't idle.

@@ -22,6 +22,9 @@ pub fn memory_lines(from: &Memory, to: &Memory) -> Vec<TestLine> {
     if from.blocks != to.blocks {
         lines.push(TestLine::Blocks { blocks: to.blocks });
     }
+    if from.cursor != to.cursor {
+        lines.push(TestLine::Cursor { block: to.cursor });
+    }
     let sam = differences(&from.sam.words, &to.sam.words);
     lines.extend(sam.map(|(index, word)| TestLine::Sam { index, word }));
     let com = differences(&from.com.words, &to.com.words);

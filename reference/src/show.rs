@@ -9,6 +9,7 @@ impl Display for Inspector {
         let memory = &self.memory;
         let [kind, slot, done, due] = pending_codes(memory.pending);
         writeln!(output, "blocks={}", memory.blocks)?;
+        writeln!(output, "cursor={}", memory.cursor)?;
         writeln!(output, "pending={kind} {slot} {done} {due}")?;
         writeln!(output, "sam{}", Words(&memory.sam.words))?;
         writeln!(output, "com{}", Words(&memory.com.words))?;

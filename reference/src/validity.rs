@@ -1,4 +1,4 @@
-//! The rules of a valid memory (document 01: "Memory is fit if"), cause 1.
+//! The rules of a valid memory (document 01: "Memory is fit if", and document 02, job 6), cause 1.
 
 use crate::bitmap::Bitmap;
 use crate::memory::{Memory, Pending, Slot, SlotState};
@@ -8,6 +8,7 @@ impl Memory {
     /// Whether the memory keeps its own rules. Any words and numbers may stand in it.
     pub fn is_valid(&self) -> bool {
         Bitmap::can_hold(self.blocks)
+            && self.cursor < self.blocks
             && self.bitmaps_fit()
             && self.touches_agree()
             && self.pending_is_valid()

@@ -1,4 +1,4 @@
-// Allocate: the lowest available blocks to a slot, their numbers to the first places of the list.
+// Allocate: the first available blocks met from the cursor on to a slot, their numbers to the first places of the list.
 ghost use mathlib.Core.Path.{_≡_};
 ghost use mathlib.Core.Bool.{true};
 ghost use Prim.Native.Nat.{_≤_};
@@ -7,7 +7,7 @@ ghost use Rattle.bitmap.specs.Bits.{IsBitmap};
 ghost use Rattle.model.specs.Calls.Allocate.{allocateAnswer, allocateMemory, allocateList};
 ghost use Rattle.verdicts.specs.Verdicts.{isAccepted, thenCauses};
 ghost use Rattle.allocate.specs.Causes.{countCauses};
-use available::scan::take_lowest;
+use available::scan::take_met;
 use bitmap::Bitmap;
 use counting::count_available;
 use model_types::answer::GrantAnswer;
@@ -48,12 +48,13 @@ pub fn allocate(mut memory: Memory, slot: u32, count: u32, list: &mut [u32]) -> 
     ensures lists { λ _. ⌜ now (list .exit) ≡ allocateList memory slot count (now (list .entry)) ⌝ }
 {
     let blocks = memory.blocks;
+    let mut first = memory.cursor;
     let sam = memory.sam;
     let mut com = memory.com;
     let mut slots = memory.slots;
     let pending = memory.pending;
     let owner = slots[pending.owner()];
-    let sound = valid(blocks, &sam.words, &com.words, slots, pending, owner);
+    let sound = valid(blocks, first, &sam.words, &com.words, slots, pending, owner);
     let at = Bitmap::slot_index(slot);
     let mut own = slots[at];
     let state = own.state;
@@ -61,17 +62,19 @@ pub fn allocate(mut memory: Memory, slot: u32, count: u32, list: &mut [u32]) -> 
     let verdict = enough(earlier, blocks, &sam.words, &com.words, count, list);
     let mut answer = verdict.grant(0);
     if verdict.is_accepted() {
-        take_lowest(
+        first = take_met(
             &sam.words,
             &mut com.words,
             &mut own.tam.words,
             list,
             blocks,
+            first,
             count,
         );
         slots[at] = own;
         answer = GrantAnswer::First(list[0]);
     }
+    memory.cursor = first;
     memory.com = com;
     memory.slots = slots;
     Granted { answer, memory }

@@ -62,12 +62,13 @@ pub fn allocate_extent(
     ensures lists { λ _. ⌜ now (list .exit) ≡ allocateExtentList memory slot count near (now (list .entry)) ⌝ }
 {
     let blocks = memory.blocks;
+    let mut first = memory.cursor;
     let sam = memory.sam;
     let mut com = memory.com;
     let mut slots = memory.slots;
     let pending = memory.pending;
     let owner = slots[pending.owner()];
-    let sound = valid(blocks, &sam.words, &com.words, slots, pending, owner);
+    let sound = valid(blocks, first, &sam.words, &com.words, slots, pending, owner);
     let at = Bitmap::slot_index(slot);
     let mut own = slots[at];
     let state = own.state;
@@ -79,8 +80,10 @@ pub fn allocate_extent(
     if verdict.is_accepted() {
         take_extent(&mut com.words, &mut own.tam.words, list, start, count);
         slots[at] = own;
+        first = Bitmap::wrapped(start + count, blocks);
         answer = GrantAnswer::First(start);
     }
+    memory.cursor = first;
     memory.com = com;
     memory.slots = slots;
     Granted { answer, memory }

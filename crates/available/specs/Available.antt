@@ -4,6 +4,7 @@ use mathlib.Core.List.{List}
 use lib.ListN.{getD}
 use lib.Bits.{bitAnd, bitOr}
 use Rattle.bitmap.specs.Blocks.{from, isAvailable}
+use Rattle.bitmap.specs.Round.{roundFrom}
 
 -- the available blocks of word k of a volume of m, as the bits of a word: those with neither bit set, below m
 unfoldable pub availableWord : ℕ → List ℕ → List ℕ → ℕ → ℕ
@@ -16,3 +17,11 @@ availableFrom m sam «com» p = from (isAvailable sam «com») m p
 -- the lowest of the available blocks from p on, or m where there is none
 unfoldable pub nextAvailable : ℕ → List ℕ → List ℕ → ℕ → ℕ
 nextAvailable m sam «com» p = getD (availableFrom m sam «com» p) 0 m
+
+-- the available blocks in the order met from p on, going round
+abbrev pub availableRound : ℕ → List ℕ → List ℕ → ℕ → List ℕ
+availableRound m sam «com» p = roundFrom (isAvailable sam «com») m p
+
+-- the first of them, or m where there is none
+unfoldable pub nextMet : ℕ → List ℕ → List ℕ → ℕ → ℕ
+nextMet m sam «com» p = getD (availableRound m sam «com» p) 0 m

@@ -1,10 +1,10 @@
-// Available blocks found and taken, lowest first.
+// Available blocks found and taken, in the order met.
 ghost use mathlib.Core.Path.{_≡_};
 ghost use Prim.Native.Nat.{_≤_};
 ghost use Rattle.bitmap.specs.Sizes.{maxBlocks};
 ghost use Rattle.bitmap.specs.Bits.{IsBitmap};
-ghost use Rattle.available.specs.Available.{nextAvailable};
-ghost use Rattle.available.specs.Take.{CanTake, Takes, lowestBlocks};
+ghost use Rattle.available.specs.Available.{nextAvailable, nextMet};
+ghost use Rattle.available.specs.Take.{CanTake, TakesMet};
 use crate::available::available_word;
 use bitmap::Bitmap;
 use bitops::block;
@@ -28,26 +28,43 @@ pub fn next_available(sam: &[u32; 128], com: &[u32; 128], blocks: u32, start: u3
     blocks
 }
 
-// Takes the lowest available blocks, as many as count: their bits in COM and TAM become 1, and their numbers go to
-// the first places of the list, rising. Later places stay.
-pub fn take_lowest(
+// The first available block met from start on, going round, or the number of blocks where there is none.
+pub fn next_met(sam: &[u32; 128], com: &[u32; 128], blocks: u32, start: u32) -> u32
+    requires { ⌜ IsBitmap (now sam) ⌝ }
+    requires { ⌜ IsBitmap (now «com») ⌝ }
+    requires { ⌜ blocks ≤ maxBlocks ⌝ }
+    requires { ⌜ start ≤ blocks ⌝ }
+    ensures { λ r. ⌜ r ≡ nextMet blocks (now (sam .entry)) (now («com» .entry)) start ⌝ }
+{
+    let found = next_available(sam, com, blocks, start);
+    if found < blocks {
+        return found;
+    }
+    next_available(sam, com, blocks, 0)
+}
+
+// Takes the first available blocks met from the cursor on, as many as count: their bits in COM and TAM become 1, and their
+// numbers go to the first places of the list, in the order met. Later places stay. It gives the cursor after them.
+pub fn take_met(
     sam: &[u32; 128],
     com: &mut [u32; 128],
     tam: &mut [u32; 128],
     list: &mut [u32],
     blocks: u32,
+    cursor: u32,
     count: u32,
-)
-    requires { ⌜ CanTake blocks count (now sam) (now «com») (now tam) (now list) ⌝ }
-    ensures { λ _. ⌜ Takes blocks count (lowestBlocks blocks count (now (sam .entry)) (now («com» .entry)))
-        (now («com» .entry)) (now (tam .entry)) (now (list .entry)) (now («com» .exit)) (now (tam .exit)) (now (list .exit)) ⌝ }
+) -> u32
+    requires { ⌜ CanTake blocks cursor count (now sam) (now «com») (now tam) (now list) ⌝ }
+    ensures { λ r. ⌜ TakesMet blocks cursor count (now (sam .entry)) (now («com» .entry)) (now (tam .entry)) (now (list .entry))
+        (now («com» .exit)) (now (tam .exit)) (now (list .exit)) r ⌝ }
 {
-    let mut next = 0;
+    let mut next = cursor;
     for n in 0..count {
-        let found = next_available(sam, com, blocks, next);
+        let found = next_met(sam, com, blocks, next);
         block::put(com, found);
         block::put(tam, found);
         list[n as usize] = found;
         next = found + 1;
     }
+    Bitmap::wrapped(next, blocks)
 }

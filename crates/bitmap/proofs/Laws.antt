@@ -4,5 +4,7 @@ pub mod Bits
 pub mod Blocks
 pub mod Search
 pub mod Extents
+pub mod Round
+pub mod Ahead
 pub mod Majority
 pub mod Count

@@ -3,4 +3,5 @@ pub mod Sizes
 pub mod Bits
 pub mod Blocks
 pub mod Extents
+pub mod Round
 pub mod Majority

@@ -2,6 +2,7 @@
 // functions. Its definitions and laws stand in specs/; code on its words in the crate bitops.
 ghost use mathlib.Core.Path.{_≡_};
 ghost use Prim.Native.Nat.{_≤_};
+ghost use Rattle.bitmap.specs.Round.{wrapped};
 ghost use Rattle.bitmap.specs.Sizes.{maxBlocks, wordsFor, blocksInRange, countInRange, slotInRange, slotIndex, IsSlot};
 
 // Document 01's map: block b is bit b mod 32 of word b div 32, and 1 means allocated.
@@ -39,6 +40,13 @@ impl Bitmap {
         ensures { λ r. ⌜ r ≡ wordsFor blocks ⌝ }
     {
         (blocks + (Bitmap::WORD_BITS - 1)) / Bitmap::WORD_BITS
+    }
+
+    // The block at a place of a volume of so many: the place after the last block is block 0 again.
+    pub fn wrapped(place: u32, blocks: u32) -> u32
+        ensures { λ r. ⌜ r ≡ wrapped blocks place ⌝ }
+    {
+        if place == blocks { 0 } else { place }
     }
 
     // Whether one allocate can give so many blocks.

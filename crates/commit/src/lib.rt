@@ -32,12 +32,14 @@ pub fn commit(mut memory: Memory, slot: u32) -> Stored
     ensures answers { λ r. ⌜ r .answer ≡ commitAnswer memory slot ⌝ }
     ensures leaves { λ r. ⌜ r .memory ≡ commitMemory memory slot ⌝ }
 {
+    let blocks = memory.blocks;
+    let first = memory.cursor;
     let sam = memory.sam;
     let com = memory.com;
     let mut slots = memory.slots;
     let mut pending = memory.pending;
     let owner = slots[pending.owner()];
-    let sound = valid(memory.blocks, &sam.words, &com.words, slots, pending, owner);
+    let sound = valid(blocks, first, &sam.words, &com.words, slots, pending, owner);
     let at = Bitmap::slot_index(slot);
     let own = slots[at];
     let state = own.state;

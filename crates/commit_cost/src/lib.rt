@@ -61,12 +61,13 @@ pub fn commit_cost(memory: Memory, slot: u32, count: u32) -> Stored
     ensures leaves { λ r. ⌜ r .memory ≡ memory ⌝ }
 {
     let blocks = memory.blocks;
+    let first = memory.cursor;
     let sam = memory.sam;
     let com = memory.com;
     let slots = memory.slots;
     let pending = memory.pending;
     let owner = slots[pending.owner()];
-    let sound = valid(blocks, &sam.words, &com.words, slots, pending, owner);
+    let sound = valid(blocks, first, &sam.words, &com.words, slots, pending, owner);
     let at = Bitmap::slot_index(slot);
     let own = slots[at];
     let state = own.state;

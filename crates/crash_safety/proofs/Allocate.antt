@@ -8,7 +8,7 @@ use lib.Seq.{take-at}
 use Rattle.model_types.specs.declared.error.Error.{Error}
 use Rattle.model_types.specs.Answers.{granted, grantNumber}
 use Rattle.model.specs.First.{unlessRefused}
-use Rattle.model.specs.Calls.Allocate.{allocateError, lowest, taking, allocateMemory, allocateAnswer, allocateList}
+use Rattle.model.specs.Calls.Allocate.{allocateError, firstMet, taking, allocateMemory, allocateAnswer, allocateList}
 use Rattle.model.specs.Calls.AllocateExtent.{allocateExtentError, nearestExtent, allocateExtentMemory, allocateExtentAnswer, allocateExtentList}
 use Rattle.model.specs.Outcome.{outcome, allocateCall, allocateExtentCall}
 use Rattle.model.proofs.Laws.Numbers.{grant-number}
@@ -55,7 +55,7 @@ granting-keeps w s count blocks list error grants i =
 pub allocate-keeps : (w : World) (s count : ℕ) (list : List ℕ) → Invariant w → Invariant (step (allocateCall s count list) w)
 unfolding step events enterAll outcome allocateMemory allocateAnswer allocateList
 allocate-keeps w s count list =
-    granting-keeps w s count (lowest (w .memory) count) list (allocateError (w .memory) s count list) (allocate-grants (w .memory) s count list)
+    granting-keeps w s count (firstMet (w .memory) count) list (allocateError (w .memory) s count list) (allocate-grants (w .memory) s count list)
 
 pub allocate-extent-keeps : (w : World) (s count near : ℕ) (list : List ℕ) → Invariant w → Invariant (step (allocateExtentCall s count near list) w)
 unfolding step events enterAll outcome allocateExtentMemory allocateExtentAnswer allocateExtentList

@@ -20,7 +20,7 @@ use Rattle.model.specs.Commit.{changedOf, commitDue, committed}
 use Rattle.model.specs.Pending.{storesDone, storesDue, oneMoreDone, finished}
 use Rattle.model.specs.Valid.{pendingValid, valid}
 use Rattle.model.specs.Calls.Start.{startError, started, startMemory}
-use Rattle.model.specs.Calls.Allocate.{allocateError, lowest, taking, allocateAnswer, allocateMemory}
+use Rattle.model.specs.Calls.Allocate.{allocateError, firstMet, taking, allocateAnswer, allocateMemory}
 use Rattle.model.specs.Calls.AllocateExtent.{allocateExtentError, nearestExtent, allocateExtentAnswer, allocateExtentMemory}
 use Rattle.model.specs.Calls.Deallocate.{deallocateError, freeing, deallocateAnswer, deallocateMemory}
 use Rattle.model.specs.Calls.Precommit.{precommitError, precommitting, precommitMemory}
@@ -173,7 +173,7 @@ module _ (s : ℕ) (w : World) (i : Invariant w) (c : InUse w) where
   allocate-told : (t count : ℕ) (list : List ℕ) → TouchesTold (allocateCall t count list)
   unfolding step outcome touchesFor allocateAnswer allocateMemory
   allocate-told t count list =
-      grant-told t count (lowest (w .memory) count) (allocateError (w .memory) t count list) (allocate-grants (w .memory) t count list)
+      grant-told t count (firstMet (w .memory) count) (allocateError (w .memory) t count list) (allocate-grants (w .memory) t count list)
 
   allocate-extent-told : (t count near : ℕ) (list : List ℕ) → TouchesTold (allocateExtentCall t count near list)
   unfolding step outcome touchesFor allocateExtentAnswer allocateExtentMemory

@@ -21,7 +21,7 @@ use Rattle.model.specs.Valid.{pendingValid}
 use Rattle.model.specs.First.{unlessRefused}
 use Rattle.model.specs.Calls.Format.{formatDisk}
 use Rattle.model.specs.Calls.Opening.{openMemory}
-use Rattle.model.specs.Calls.Allocate.{allocateError, lowest, allocateList}
+use Rattle.model.specs.Calls.Allocate.{allocateError, firstMet, allocateList}
 use Rattle.model.specs.Calls.AllocateExtent.{allocateExtentError, nearestExtent, allocateExtentList}
 use Rattle.model.specs.Outcome.{Call, outcome, crashCall}
 use Rattle.model.proofs.Laws.Valid.{ValidParts, valid-parts}
@@ -98,7 +98,7 @@ module _ (blocks : ℕ) (some-blocks : 1 ≤ blocks) (few : blocks ≤ maxBlocks
       → holders (w .ledger) b ≡ 0
   unfolding allocateList
   granted-unheld s count list e =
-      grant-unheld s count (lowest (w .memory) count) list (allocateError (w .memory) s count list) (allocate-grants (w .memory) s count list e) e
+      grant-unheld s count (firstMet (w .memory) count) list (allocateError (w .memory) s count list) (allocate-grants (w .memory) s count list e) e
 
   -- or by an allocate extent.
   pub extent-unheld : (s count near : ℕ) (list : List ℕ)

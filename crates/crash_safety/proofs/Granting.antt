@@ -8,6 +8,7 @@ use mathlib.Core.Option.{none}
 use mathlib.Core.List.{List, _++_}
 use lib.ListN.{length}
 use Rattle.bitmap.specs.Blocks.{member}
+use Rattle.bitmap.specs.Round.{afterLast}
 use Rattle.bitmap.proofs.Laws.Bits.{noBits-bit, bitmapOf-bits}
 use Rattle.bitmap.proofs.Laws.Blocks.{member-append}
 use Rattle.model_types.specs.declared.memory.Memory.{Memory}
@@ -22,7 +23,7 @@ use Rattle.crash_safety.specs.Ledger.{Sets, Ledger, withTaken, setsOf, w
 use Rattle.crash_safety.specs.World.{World, worldOf}
 use Rattle.crash_safety.proofs.Holders.{one, one-le, takers-none}
 use Rattle.crash_safety.proofs.Invariant.{Tied, Plain, Invariant}
-use Rattle.crash_safety.proofs.Touching.{plain, sets-there, touching, holders-set, active-taken, active-freed}
+use Rattle.crash_safety.proofs.Touching.{plain, sets-there, moving, holders-set, active-taken, active-freed}
 
 -- ---- the slot's sets
 
@@ -140,7 +141,7 @@ pub grant-keeps : (w : World) (s : ℕ) (blocks : List ℕ)
     → Invariant (worldOf (taking (w .memory) s blocks) (w .disk) (takes (w .ledger) s blocks))
 unfolding taking takes
 grant-keeps w s blocks i ready active all =
-    touching w s i ready new (volumeBitmap (w .memory) (λ b. member b blocks || comBit (w .memory) b))
+    moving w s i ready (afterLast (w .memory .blocks) (w .memory .cursor) blocks) new (volumeBitmap (w .memory) (λ b. member b blocks || comBit (w .memory) b))
     (withTaken (setsOf (w .ledger) s) (setsOf (w .ledger) s .taken ++ blocks))
     (taken-tie (samBit (w .memory)) slot new (setsOf (w .ledger) s) blocks active refl
     (bitmapOf-bits (w .memory .blocks) (λ b. member b blocks || tamBit slot b) (parts .few-blocks) (none-from (w .memory) s blocks all parts))

@@ -10,9 +10,10 @@ use Rattle.bitmap.specs.Sizes.{maxCount, blocksInRange, countInRange, slotInRan
 use Rattle.bitmap.specs.Bits.{isSet, bit, wordOf, wordsOf, bitmapOf, noBitsFrom}
 use Rattle.bitmap.specs.Blocks.{scan, from, allocatedBlocks, isAvailable, availableBlocks, member, allBelow}
 use Rattle.bitmap.specs.Extents.{adjoining, isStart, starts, distance, nearer, nearestOf, nearest}
+use Rattle.bitmap.specs.Round.{roundFrom, wrapped, afterLast}
 use Rattle.bitmap.specs.Majority.{majority}
 use Rattle.model_types.specs.Answers.{done, granted, due, counted}
-use Rattle.model.specs.Calls.Allocate.{allocateError, lowest, taking, allocateAnswer, allocateMemory, allocateList}
+use Rattle.model.specs.Calls.Allocate.{allocateError, met, firstMet, taking, allocateAnswer, allocateMemory, allocateList}
 use Rattle.model.specs.Calls.AllocateExtent.{allocateExtentError, nearestExtent, allocateExtentAnswer, allocateExtentMemory, allocateExtentList}
 use Rattle.model.specs.Calls.CommitCost.{commitCostError, touchedBlocks, costFor, commitCost, commitCostAnswer}
 use Rattle.model.specs.Calls.Committing.{commitError, committing, commitAnswer, commitMemory}
@@ -98,7 +99,8 @@ beforePoint = openCall ∷ grow 1 2 ++ storeCalls 2
 afterPoint : List Call
 afterPoint = beforePoint ++ storeCalls 1
 
--- slot 1 gives back block 0 while slot 3 is open, slot 2 takes it again; then slot 3, which touched nothing, commits
+-- slot 1 gives back block 0 while slot 3 is open, slot 2 takes it again, behind blocks 2 and 3; then slot 3, which touched nothing,
+-- commits
 retaken : List Call
 retaken =
     openCall
@@ -110,7 +112,7 @@ retaken =
     ∷ precommitCall 1
     ∷ commitCall 1
     ∷ storeCalls 5
-    ++ grow 2 1
+    ++ grow 2 3
     ++ storeCalls 5
     ++ precommitCall 3
     ∷ commitCall 3
@@ -133,7 +135,7 @@ borrowed =
     ∷ commitCostCall 7 3
     ∷ []
 
--- and drops them, after a revoke that is refused; slot 1 then takes the same blocks
+-- and drops them, after a revoke that is refused; slot 1 then takes the other blocks, and one of the same behind them
 dropped : List Call
 dropped = borrowed ++ revokeCall 7 ∷ dropCall 7 ∷ startCall 1 ∷ allocateCall 1 3 list ∷ statusCall ∷ []
 
@@ -159,6 +161,20 @@ spared = adjoined ++ precommitCall 7 ∷ dropCall 7 ∷ []
 revoked : List Call
 revoked = spared ++ revokeCall 7 ∷ allocateExtentCall 1 2 3 list ∷ []
 
+-- slot 5 takes an extent, carries on behind it and going round, and takes what is left; 17 then, and an open begins at block 0 again
+carried : List Call
+carried =
+    openCall
+    ∷ startCall 5
+    ∷ allocateExtentCall 5 1 2 list
+    ∷ allocateCall 5 2 list
+    ∷ allocateCall 5 1 list
+    ∷ allocateCall 5 1 list
+    ∷ openCall
+    ∷ startCall 5
+    ∷ allocateCall 5 3 list
+    ∷ []
+
 -- a crash inside a recovery, after one of its two stores; the next open starts it again
 crashedTwice : List Call
 crashedTwice = afterPoint ++ crashCall ∷ openCall ∷ storeCalls 1 ++ crashCall ∷ statusCall ∷ openCall ∷ storeCalls 2 ++ statusCall ∷ []
@@ -176,6 +192,7 @@ histories =
     ++ after (1 ∷ 7 ∷ []) adjoined
     ++ after (1 ∷ 7 ∷ []) spared
     ++ after (1 ∷ 7 ∷ []) revoked
+    ++ after (5 ∷ []) carried
     ++ after (1 ∷ []) crashedTwice
 
 pub expected : List (List ℕ)
@@ -210,9 +227,9 @@ expected =
     ∷ []
     -- freed by slot 1, retaken by slot 2
     ∷ replicate 31 0
-    ∷ ((0 ∷ 0 ∷ 0 ∷ 0 ∷ 5 ∷ 4 ∷ 3 ∷ 2 ∷ 1 ∷ 0 ∷ []) ++ (0 ∷ 0 ∷ 0 ∷ 0 ∷ 5 ∷ 4 ∷ 3 ∷ 2 ∷ 1 ∷ 0 ∷ []) ++ (0 ∷ 0 ∷ 0 ∷ 5 ∷ 4 ∷ 3 ∷ 2 ∷ 1 ∷ 0 ∷ 0 ∷ 0 ∷ []))
-    ∷ (1 ∷ 0 ∷ [])
-    ∷ (0 ∷ 1 ∷ [])
+    ∷ ((0 ∷ 0 ∷ 0 ∷ 0 ∷ 5 ∷ 4 ∷ 3 ∷ 2 ∷ 1 ∷ 0 ∷ []) ++ (0 ∷ 0 ∷ 0 ∷ 0 ∷ 5 ∷ 4 ∷ 3 ∷ 2 ∷ 1 ∷ 0 ∷ []) ++ (0 ∷ 2 ∷ 0 ∷ 5 ∷ 4 ∷ 3 ∷ 2 ∷ 1 ∷ 0 ∷ 0 ∷ 0 ∷ []))
+    ∷ (1 ∷ 2 ∷ 3 ∷ 0 ∷ [])
+    ∷ (0 ∷ 1 ∷ 2 ∷ 3 ∷ [])
     ∷ []
     ∷ []
     ∷ []
@@ -235,10 +252,10 @@ expected =
     ∷ []
     -- dropped, and taken by slot 1; 14 for a revoke of an open slot
     ∷ (0 ∷ 0 ∷ 0 ∷ 16 ∷ 0 ∷ 0 ∷ 17 ∷ 14 ∷ 0 ∷ 0 ∷ 0 ∷ 0 ∷ [])
-    ∷ (0 ∷ 0 ∷ 0 ∷ 0 ∷ 0 ∷ 5 ∷ 0 ∷ 0 ∷ 0 ∷ 0 ∷ 0 ∷ 0 ∷ [])
+    ∷ (0 ∷ 0 ∷ 0 ∷ 0 ∷ 0 ∷ 5 ∷ 0 ∷ 0 ∷ 0 ∷ 0 ∷ 2 ∷ 0 ∷ [])
     ∷ []
     ∷ []
-    ∷ (0 ∷ 1 ∷ 2 ∷ [])
+    ∷ (2 ∷ 3 ∷ 0 ∷ [])
     ∷ []
     ∷ []
     ∷ []
@@ -269,6 +286,13 @@ expected =
     ∷ []
     ∷ []
     ∷ []
+    -- taken by slot 5 in the order met, before the open and after it
+    ∷ (0 ∷ 0 ∷ 0 ∷ 0 ∷ 0 ∷ 17 ∷ 0 ∷ 0 ∷ 0 ∷ [])
+    ∷ (0 ∷ 0 ∷ 2 ∷ 3 ∷ 1 ∷ 0 ∷ 0 ∷ 0 ∷ 0 ∷ [])
+    ∷ []
+    ∷ []
+    ∷ (0 ∷ 1 ∷ 2 ∷ [])
+    ∷ []
     -- crashed inside a recovery; status is refused until the next open
     ∷ (replicate 12 0 ++ (1 ∷ 0 ∷ 0 ∷ 0 ∷ 0 ∷ []))
     ∷ (0 ∷ 0 ∷ 0 ∷ 0 ∷ 5 ∷ 4 ∷ 3 ∷ 2 ∷ 0 ∷ 2 ∷ 1 ∷ 0 ∷ 0 ∷ 2 ∷ 1 ∷ 0 ∷ 2 ∷ [])
@@ -279,7 +303,7 @@ expected =
     ∷ []
 
 computed : sameRows histories expected ≡ true
-unfolding sameRows expected histories after shown slotSets follow beforePoint afterPoint retaken reopened borrowed dropped adjoined spared revoked crashedTwice grow list storeCalls xor isSet bit wordOf wordsOf bitmapOf noBitsFrom scan from allocatedBlocks isAvailable availableBlocks member allBelow majority done granted due counted commitCostError touchedBlocks costFor commitCost commitCostAnswer allocateError lowest taking allocateAnswer allocateMemory allocateList adjoining isStart starts distance nearer nearestOf nearest extentStarts noExtent allocateExtentError nearestExtent allocateExtentAnswer allocateExtentMemory allocateExtentList commitError committing commitAnswer commitMemory deallocateError freeing deallocateAnswer deallocateMemory formatError formatted formatAnswer formatDisk openError recoveryDue recoveryPending opened openAnswer openMemory precommitError precommitting precommitAnswer precommitMemory dropError dropAnswer dropMemory revokeError revokeAnswer revokeMemory rolledBackCom rolledBack startError started startAnswer startMemory statusError statusCounts statusAnswer allocated activeSlots storeError stillDue advanced nextStored storeAnswer storeMemory storeDisk memoryInvalid diskLengthWrong diskBlocksWrong diskBitmapWrong diskLogWrong diskMismatched blocksOutOfRange isNothing nothingPending workPending slotOutOfRange slotActive slotInactive slotPrecommitted slotNotPrecommitted countOutOfRange countTooLarge listShort available tooFewAvailable blockOutOfRange blockFree blockFreeing committedSam entriesOf changedOf commitDue refreshed committed lengthIn entriesIn logEntries entriesValid logValid durable dueStores entriesAgree recoveryMatches diskMatches firstOr first unlessRefused touched outcome storesDone storesDue oneMoreDone finished writes changesFrom logStores checkpointWith journalWith checkpointStores commitStores blocksInRange countInRange slotInRange sameWords allSlots slotValid touches touchesAgree isQuiet pendingValid valid emptied hasWord wordsFrom setsWords without takes frees counts commits stores entered enter enterAll events step run
+unfolding sameRows expected histories after shown slotSets follow beforePoint afterPoint retaken reopened borrowed dropped adjoined spared revoked carried crashedTwice grow list storeCalls xor isSet bit wordOf wordsOf bitmapOf noBitsFrom scan from allocatedBlocks isAvailable availableBlocks member allBelow majority done granted due counted commitCostError touchedBlocks costFor commitCost commitCostAnswer allocateError roundFrom wrapped afterLast met firstMet taking allocateAnswer allocateMemory allocateList adjoining isStart starts distance nearer nearestOf nearest extentStarts noExtent allocateExtentError nearestExtent allocateExtentAnswer allocateExtentMemory allocateExtentList commitError committing commitAnswer commitMemory deallocateError freeing deallocateAnswer deallocateMemory formatError formatted formatAnswer formatDisk openError recoveryDue recoveryPending opened openAnswer openMemory precommitError precommitting precommitAnswer precommitMemory dropError dropAnswer dropMemory revokeError revokeAnswer revokeMemory rolledBackCom rolledBack startError started startAnswer startMemory statusError statusCounts statusAnswer allocated activeSlots storeError stillDue advanced nextStored storeAnswer storeMemory storeDisk memoryInvalid diskLengthWrong diskBlocksWrong diskBitmapWrong diskLogWrong diskMismatched blocksOutOfRange isNothing nothingPending workPending slotOutOfRange slotActive slotInactive slotPrecommitted slotNotPrecommitted countOutOfRange countTooLarge listShort available tooFewAvailable blockOutOfRange blockFree blockFreeing committedSam entriesOf changedOf commitDue refreshed committed lengthIn entriesIn logEntries entriesValid logValid durable dueStores entriesAgree recoveryMatches diskMatches firstOr first unlessRefused touched outcome storesDone storesDue oneMoreDone finished writes changesFrom logStores checkpointWith journalWith checkpointStores commitStores blocksInRange countInRange slotInRange sameWords allSlots slotValid touches touchesAgree isQuiet pendingValid valid emptied hasWord wordsFrom setsWords without takes frees counts commits stores entered enter enterAll events step run
 computed = refl
 
 pub worked : histories ≡ expected

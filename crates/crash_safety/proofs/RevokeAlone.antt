@@ -17,7 +17,7 @@ use Rattle.model_types.specs.declared.memory.SlotState.{SlotState}
 use Rattle.model_types.specs.declared.memory.SlotState.the-variants.{Precommitted}
 use Rattle.model_types.specs.declared.memory.Pending.{Pending}
 use Rattle.model_types.specs.declared.memory.Pending.the-variants.{Nothing, Commit, Recovery}
-use Rattle.model_types.specs.Memory.{slotAt, isActive, isPrecommitted, withCom, withSlot, withPending}
+use Rattle.model_types.specs.Memory.{slotAt, isActive, isPrecommitted, withCursor, withCom, withSlot, withPending}
 use Rattle.model.specs.First.{unlessRefused}
 use Rattle.model.specs.Commit.{committedSam, changedOf, commitDue, refreshed, committed}
 use Rattle.model.specs.Pending.{storesDone, storesDue, oneMoreDone, finished}
@@ -103,9 +103,9 @@ module _ (s : ℕ) (sets : Sets) (w : World) (waits : Waiting s sets w) where
     abbrev Waits : Memory → Type 0
     Waits memory = Waiting s sets (worldOf memory disk ledger)
 
-    -- another slot changes, and COM
-    changed-waits : (t : ℕ) → (s ≡ t → ⊥) → (slot : Slot) («com» : Bitmap) → Waits (withSlot (withCom (w .memory) «com») t slot)
-    changed-waits t other slot «com» =
+    -- another slot changes, COM and the cursor
+    changed-waits : (t : ℕ) → (s ≡ t → ⊥) → (cursor : ℕ) (slot : Slot) («com» : Bitmap) → Waits (withCursor (withSlot (withCom (w .memory) «com») t slot) cursor)
+    changed-waits t other cursor slot «com» =
         record {
           precommitted = ap (λ (x : Slot). x .state) (slot-other (withCom (w .memory) «com») t slot s other) ∙ waits .precommitted;
           not-committing = waits .not-committing;
@@ -143,14 +143,14 @@ module _ (s : ℕ) (sets : Sets) (w : World) (waits : Waiting s sets w) where
         either Waits (eqb (done + 1) due) (committed-waits t (λ e. elsewhere done due (cc)))
         (pending-waits (Commit t (done + 1) due) (λ _ _ e. elsewhere done due (cc)))
 
-  -- an accepted call of another slot changes that slot, COM and that slot's sets
-  call-waits : (t : ℕ) (error : Option Error) (slot : Slot) («com» : Bitmap) (event : Event) → event .answer ≡ numberOf error
+  -- an accepted call of another slot changes that slot, COM, the cursor and that slot's sets
+  call-waits : (t : ℕ) (error : Option Error) (cursor : ℕ) (slot : Slot) («com» : Bitmap) (event : Event) → event .answer ≡ numberOf error
       → ((s ≡ t → ⊥) → SameSets (w .ledger) s (alters event (w .ledger)))
       → (error ≡ none → s ≡ t → ⊥)
-      → Waiting s sets (worldOf (unlessRefused error (withSlot (withCom (w .memory) «com») t slot) (w .memory)) (w .disk) (enter event (w .ledger)))
-  call-waits t error slot «com» event number same other =
+      → Waiting s sets (worldOf (unlessRefused error (withCursor (withSlot (withCom (w .memory) «com») t slot) cursor) (w .memory)) (w .disk) (enter event (w .ledger)))
+  call-waits t error cursor slot «com» event number same other =
       memory-keeps (Waiting s sets) w error _ event number waits
-      (λ e. changed-waits (w .disk) (alters event (w .ledger)) (same (other e)) t (other e) slot «com»)
+      (λ e. changed-waits (w .disk) (alters event (w .ledger)) (same (other e)) t (other e) cursor slot «com»)
 
   -- a question
   asked-waits : (t : ℕ) (after : Outcome) → Waiting s sets (worldOf (w .memory) (w .disk) (enterAll (eventOf asking t 0 after ∷ []) (w .ledger)))
@@ -161,24 +161,24 @@ module _ (s : ℕ) (sets : Sets) (w : World) (waits : Waiting s sets w) where
   step-waits i openCall spares = absurd (spares .no-open refl)
   step-waits i crashCall spares = absurd (spares .no-crash refl)
   step-waits i (startCall t) spares =
-      call-waits t _ _ (w .memory .com) _ (done-number _) (λ _. refl) (λ e. another isActive refl t (start-accepted (w .memory) t e .idle))
+      call-waits t _ _ _ (w .memory .com) _ (done-number _) (λ _. refl) (λ e. another isActive refl t (start-accepted (w .memory) t e .idle))
   step-waits i (allocateCall t count list) spares =
-      call-waits t _ _ _ _ (grant-number _ _) (set-same (w .ledger) s t _)
+      call-waits t _ _ _ _ _ (grant-number _ _) (set-same (w .ledger) s t _)
       (λ e. another isPrecommitted refl t (allocate-accepted (w .memory) t count list e .not-precommitted))
   step-waits i (allocateExtentCall t count near list) spares =
-      call-waits t _ _ _ _ (grant-number _ _) (set-same (w .ledger) s t _)
+      call-waits t _ _ _ _ _ (grant-number _ _) (set-same (w .ledger) s t _)
       (λ e. another isPrecommitted refl t (allocate-extent-accepted (w .memory) t count near list e .not-precommitted))
   step-waits i (deallocateCall t block) spares =
-      call-waits t _ _ _ _ (done-number _) (set-same (w .ledger) s t _)
+      call-waits t _ _ _ _ _ (done-number _) (set-same (w .ledger) s t _)
       (λ e. another isPrecommitted refl t (deallocate-accepted (w .memory) t block e .not-precommitted))
   step-waits i (precommitCall t) spares =
-      call-waits t _ _ (w .memory .com) _ (done-number _) (λ _. refl)
+      call-waits t _ _ _ (w .memory .com) _ (done-number _) (λ _. refl)
       (λ e. another isPrecommitted refl t (precommit-accepted (w .memory) t e .not-precommitted))
   step-waits i (dropCall t) spares =
-      call-waits t _ _ _ _ (done-number _) (set-same (w .ledger) s t _)
+      call-waits t _ _ _ _ _ (done-number _) (set-same (w .ledger) s t _)
       (λ e. another isPrecommitted refl t (drop-accepted (w .memory) t e .not-precommitted))
   step-waits i (revokeCall t) spares =
-      call-waits t _ _ _ _ (done-number _) (set-same (w .ledger) s t _) (λ _ own. spares .no-revoke (ap revokeCall (sym own)))
+      call-waits t _ _ _ _ _ (done-number _) (set-same (w .ledger) s t _) (λ _ own. spares .no-revoke (ap revokeCall (sym own)))
   step-waits i (commitCall t) spares =
       memory-keeps (Waiting s sets) w _ _ _ (stores-number _ _) waits
       (λ _. committing-waits _ _ (counts-same (w .ledger) s t) t (λ own. spares .no-commit (ap commitCall (sym own))))

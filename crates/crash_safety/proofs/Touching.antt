@@ -13,7 +13,7 @@ use Rattle.bitmap.specs.declared.Bitmap.{Bitmap}
 use Rattle.bitmap.specs.Blocks.{member}
 use Rattle.model_types.specs.declared.memory.Memory.{Memory}
 use Rattle.model_types.specs.declared.memory.Slot.{Slot}
-use Rattle.model_types.specs.Memory.{withCom, withSlot, idleSlot, isActive, samBit, tamBit}
+use Rattle.model_types.specs.Memory.{withCursor, withCom, withSlot, idleSlot, isActive, samBit, tamBit}
 use Rattle.model.proofs.Laws.Fields.{slots-length}
 use Rattle.model.proofs.Laws.Accepted.{Ready}
 use Rattle.crash_safety.specs.Ledger.{Sets, noSets, Ledger, setsOf, withAllSets, withSets, holders}
@@ -49,11 +49,12 @@ module _ (w : World) (s : ℕ) (i : Invariant w) (ready : Ready (w .memory) s) w
   pub sets-there : s < length (w .ledger .slots)
   sets-there = omega (arith, i .slots, ready .below)
 
-  pub touching : (slot : Slot) («com» : Bitmap) (own : Sets)
+  -- the cursor may move too
+  pub moving : (cursor : ℕ) (slot : Slot) («com» : Bitmap) (own : Sets)
       → Tied (samBit (w .memory)) slot own
       → ((b : ℕ) → holders (withSets (w .ledger) s own) b ≤ 1)
-      → Invariant (worldOf (withSlot (withCom (w .memory) «com») s slot) (w .disk) (withSets (w .ledger) s own))
-  touching slot «com» own new holding =
+      → Invariant (worldOf (withCursor (withSlot (withCom (w .memory) «com») s slot) cursor) (w .disk) (withSets (w .ledger) s own))
+  moving cursor slot «com» own new holding =
       same-disk w memory ledger i refl holding (length-set (w .ledger .slots) s own ∙ i .slots)
       (λ _.
       record {
@@ -63,7 +64,7 @@ module _ (w : World) (s : ℕ) (i : Invariant w) (ready : Ready (w .memory) s) w
       })
     where
       memory : Memory
-      memory = withSlot (withCom (w .memory) «com») s slot
+      memory = withCursor (withSlot (withCom (w .memory) «com») s slot) cursor
 
       ledger : Ledger
       ledger = withSets (w .ledger) s own
@@ -79,7 +80,14 @@ module _ (w : World) (s : ℕ) (i : Invariant w) (ready : Ready (w .memory) s) w
             counted = plain .counted;
           }
 
-  -- the same where COM and the ledger stay
+  -- the same where it stays
+  pub touching : (slot : Slot) («com» : Bitmap) (own : Sets)
+      → Tied (samBit (w .memory)) slot own
+      → ((b : ℕ) → holders (withSets (w .ledger) s own) b ≤ 1)
+      → Invariant (worldOf (withSlot (withCom (w .memory) «com») s slot) (w .disk) (withSets (w .ledger) s own))
+  touching = moving (w .memory .cursor)
+
+  -- and COM and the ledger too
   pub touching-alone : (slot : Slot)
       → Tied (samBit (w .memory)) slot (setsOf (w .ledger) s)
       → Invariant (worldOf (withSlot (w .memory) s slot) (w .disk) (w .ledger))

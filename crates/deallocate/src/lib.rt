@@ -48,12 +48,13 @@ pub fn deallocate(mut memory: Memory, slot: u32, block: u32) -> Changed
     ensures leaves { λ r. ⌜ r .memory ≡ deallocateMemory memory slot block ⌝ }
 {
     let blocks = memory.blocks;
+    let first = memory.cursor;
     let sam = memory.sam;
     let mut com = memory.com;
     let mut slots = memory.slots;
     let pending = memory.pending;
     let owner = slots[pending.owner()];
-    let sound = valid(blocks, &sam.words, &com.words, slots, pending, owner);
+    let sound = valid(blocks, first, &sam.words, &com.words, slots, pending, owner);
     let at = Bitmap::slot_index(slot);
     let mut own = slots[at];
     let state = own.state;

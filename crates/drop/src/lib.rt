@@ -13,12 +13,14 @@ pub fn drop(mut memory: Memory, slot: u32) -> Changed
     ensures answers { λ r. ⌜ r .answer ≡ dropAnswer memory slot ⌝ }
     ensures leaves { λ r. ⌜ r .memory ≡ dropMemory memory slot ⌝ }
 {
+    let blocks = memory.blocks;
+    let first = memory.cursor;
     let sam = memory.sam;
     let mut com = memory.com;
     let mut slots = memory.slots;
     let pending = memory.pending;
     let owner = slots[pending.owner()];
-    let sound = valid(memory.blocks, &sam.words, &com.words, slots, pending, owner);
+    let sound = valid(blocks, first, &sam.words, &com.words, slots, pending, owner);
     let at = Bitmap::slot_index(slot);
     let own = slots[at];
     let state = own.state;

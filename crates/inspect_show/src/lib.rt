@@ -125,6 +125,15 @@ fn put_blocks(out: &mut [u8], at: usize, blocks: u32) -> usize
     end_line(out, next)
 }
 
+// The cursor, and the line's end.
+fn put_cursor(out: &mut [u8], at: usize, cursor: u32) -> usize
+    requires { ⌜ Waits (now out) at ⌝ }
+    ensures { λ r. ⌜ Waits (now (out .exit)) r ⌝ }
+{
+    let next = put_field(out, at, b"cursor=", cursor as u64);
+    end_line(out, next)
+}
+
 // A bitmap with its name.
 fn put_bitmap(out: &mut [u8], at: usize, name: &[u8], words: &[u32]) -> usize
     requires { ⌜ Waits (now out) at ⌝ }
@@ -143,7 +152,8 @@ fn put_memory(out: &mut [u8], at: usize, memory: Memory) -> usize
     let sam = memory.sam;
     let com = memory.com;
     let after_blocks = put_blocks(out, at, memory.blocks);
-    let after_pending = put_pending(out, after_blocks, pending);
+    let after_cursor = put_cursor(out, after_blocks, memory.cursor);
+    let after_pending = put_pending(out, after_cursor, pending);
     let after_sam = put_bitmap(out, after_pending, b"sam", &sam.words);
     let after_com = put_bitmap(out, after_sam, b"com", &com.words);
     put_slots(out, after_com, memory)

@@ -4,6 +4,7 @@ use crate::damage::block_count;
 use crate::damage::com_word;
 use crate::damage::pending_work;
 use crate::damage::sam_word;
+use crate::damage::searched_first;
 use crate::damage::slot_state;
 use crate::damage::tam_word;
 use crate::fixture::Fixture;
@@ -106,6 +107,7 @@ pub fn alter(line: Further, fixture: Fixture) -> Step
         Further::Disk { index, word } => disk_word(fixture, index, word),
         Further::Length { words } => disk_length(fixture, words),
         Further::Blocks { blocks } => block_count(fixture, blocks),
+        Further::Cursor { block } => searched_first(fixture, block),
         Further::Sam { index, word } => sam_word(fixture, index, word),
         Further::Com { index, word } => com_word(fixture, index, word),
         Further::Tam { slot, index, word } => tam_word(fixture, slot, index, word),

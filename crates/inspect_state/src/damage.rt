@@ -20,6 +20,16 @@ pub(crate) fn block_count(fixture: Fixture, blocks: u32) -> Step
     fixture.with_memory(memory).done()
 }
 
+// The memory's cursor becomes V.
+pub(crate) fn searched_first(fixture: Fixture, block: u32) -> Step
+    requires { ⌜ Sized fixture ⌝ }
+    ensures { λ r. ⌜ Sized (r .fixture) ⌝ }
+{
+    let mut memory = fixture.memory;
+    memory.cursor = block;
+    fixture.with_memory(memory).done()
+}
+
 // Word I of SAM becomes V.
 pub(crate) fn sam_word(fixture: Fixture, index: u32, word: u32) -> Step
     requires { ⌜ Sized fixture ⌝ }

@@ -16,6 +16,9 @@ pub enum Further {
     Blocks {
         blocks: u32,
     },
+    Cursor {
+        block: u32,
+    },
     Sam {
         index: u32,
         word: u32,
@@ -70,6 +73,9 @@ fn one(name: &[u8], number: u32) -> Further {
     }
     if same(name, b"blocks") {
         return Further::Blocks { blocks: number };
+    }
+    if same(name, b"cursor") {
+        return Further::Cursor { block: number };
     }
     if same(name, b"list") {
         return Further::List { places: number };

@@ -31,5 +31,6 @@ pub mod CommitCost
 pub mod Extents
 pub mod Granting
 pub mod DropRevoke
+pub mod NextFit
 pub mod Opened
 pub mod Rows

@@ -11,7 +11,7 @@ use Rattle.model.specs.Types.{Open, Nothing, Memory, Answer, GrantAnswer
 use Rattle.model_types.specs.Memory.{slotAt, volumeWords}
 use Rattle.model_types.specs.Pending.{storesFor}
 use Rattle.model.specs.Valid.{valid}
-use Rattle.model.specs.Calls.Allocate.{lowest, allocateAnswer, allocateMemory}
+use Rattle.model.specs.Calls.Allocate.{firstMet, allocateAnswer, allocateMemory}
 use Rattle.model.specs.Calls.Precommit.{precommitAnswer, precommitMemory}
 use Rattle.model.specs.Calls.Committing.{commitAnswer}
 use Rattle.model.specs.Calls.Status.{counts}
@@ -29,7 +29,7 @@ pub record CommitsWithin (memory : Memory) (s cost : ℕ) : Type 0 where
 pub record CostKept (memory : Memory) (s count cost : ℕ) : Type 0 where
   pub as-it-stands : CommitsWithin memory s cost
   pub allocates : (list : List ℕ) → 1 ≤ count → count ≤ length list
-      → allocateAnswer memory s count list ≡ GrantAnswer.First (getD (lowest memory count) 0 0)
+      → allocateAnswer memory s count list ≡ GrantAnswer.First (getD (firstMet memory count) 0 0)
   pub allocated : (list : List ℕ) → 1 ≤ count → count ≤ length list → CommitsWithin (allocateMemory memory s count list) s cost
 
 -- from every valid memory, with any list as long as the count. SAM is 128 words of 32 bits, as in every memory that the

@@ -16,6 +16,7 @@ pub record RollsBack (memory : Memory) (s : ℕ) (after : Memory) : Type 0 where
   pub idle : slotAt after s ≡ idleSlot
   pub com-bits : (b : ℕ) → comBit after b ≡ cond (touched memory (slotAt memory s) b) (samBit memory b) (comBit memory b)
   pub same-blocks : after .blocks ≡ memory .blocks
+  pub same-cursor : after .cursor ≡ memory .cursor
   pub same-sam : after .sam ≡ memory .sam
   pub other-slots : (t : ℕ) → (t ≡ s → ⊥) → slotAt after t ≡ slotAt memory t
   pub same-pending : after .pending ≡ memory .pending

@@ -11,7 +11,7 @@ use Rattle.model.specs.Types.{Open, Nothing, Memory, GrantAnswer, Status
 use Rattle.model_types.specs.Memory.{slotAt}
 use Rattle.model.specs.Valid.{valid}
 use Rattle.model.specs.Causes.{tooFewAvailable}
-use Rattle.model.specs.Calls.Allocate.{lowest, allocateAnswer}
+use Rattle.model.specs.Calls.Allocate.{firstMet, allocateAnswer}
 use Rattle.model.specs.Calls.Status.{counts, statusAnswer}
 
 -- it holds of every valid memory
@@ -51,7 +51,7 @@ pub record CanBeHad (memory : Memory) : Type 0 where
   pub never : (s count : ℕ) (list : List ℕ) → count ≤ counts memory .available
       → allocateAnswer memory s count list ≡ GrantAnswer.Refused TooFewAvailable → ⊥
   pub granted : (s count : ℕ) (list : List ℕ) → Eligible memory s count list → count ≤ counts memory .available
-      → allocateAnswer memory s count list ≡ GrantAnswer.First (getD (lowest memory count) 0 0)
+      → allocateAnswer memory s count list ≡ GrantAnswer.First (getD (firstMet memory count) 0 0)
   pub always : (s count : ℕ) (list : List ℕ) → Eligible memory s count list → counts memory .available < count
       → allocateAnswer memory s count list ≡ GrantAnswer.Refused TooFewAvailable
 

@@ -13,6 +13,7 @@ pub mod Calls
 pub mod FourCounts
 pub mod CostKept
 pub mod Extents
+pub mod NextFit
 pub mod DropRevoke
 pub mod Completion
 pub mod Outcome

@@ -56,10 +56,11 @@ pendingValid memory (Commit s done due) =
     && ltb done due
 pendingValid memory (Recovery done due) = isQuiet memory && leb 2 due && leb due (volumeWords memory + 1) && ltb done due
 
--- "Memory is fit if ..."
+-- "Memory is fit if ...". Document 02, job 6: the block to be searched first is "below m to be fit"
 unfoldable pub valid : Memory → Bool
 valid memory =
     blocksInRange (memory .blocks)
+    && ltb (memory .cursor) (memory .blocks)
     && noBitsFrom (memory .blocks) (memory .sam .words)
     && noBitsFrom (memory .blocks) (memory .com .words)
     && allSlots (slotValid (memory .blocks)) (memory .slots)

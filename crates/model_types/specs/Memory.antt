@@ -33,27 +33,31 @@ withTam slot tam = slotOf (slot .state) tam
 abbrev pub idleSlot : Slot
 idleSlot = slotOf Idle emptyBitmap
 
-abbrev pub memoryOf : ℕ → Bitmap → Bitmap → List Slot → Pending → Memory
-memoryOf blocks sam «com» slots pending = record { blocks = blocks; sam = sam; «com» = «com»; slots = slots; pending = pending }
+abbrev pub memoryOf : ℕ → ℕ → Bitmap → Bitmap → List Slot → Pending → Memory
+memoryOf blocks cursor sam «com» slots pending =
+    record { blocks = blocks; cursor = cursor; sam = sam; «com» = «com»; slots = slots; pending = pending }
+
+abbrev pub withCursor : Memory → ℕ → Memory
+withCursor memory cursor = memoryOf (memory .blocks) cursor (memory .sam) (memory .com) (memory .slots) (memory .pending)
 
 abbrev pub withSam : Memory → Bitmap → Memory
-withSam memory sam = memoryOf (memory .blocks) sam (memory .com) (memory .slots) (memory .pending)
+withSam memory sam = memoryOf (memory .blocks) (memory .cursor) sam (memory .com) (memory .slots) (memory .pending)
 
 abbrev pub withCom : Memory → Bitmap → Memory
-withCom memory «com» = memoryOf (memory .blocks) (memory .sam) «com» (memory .slots) (memory .pending)
+withCom memory «com» = memoryOf (memory .blocks) (memory .cursor) (memory .sam) «com» (memory .slots) (memory .pending)
 
 abbrev pub withSlots : Memory → List Slot → Memory
-withSlots memory slots = memoryOf (memory .blocks) (memory .sam) (memory .com) slots (memory .pending)
+withSlots memory slots = memoryOf (memory .blocks) (memory .cursor) (memory .sam) (memory .com) slots (memory .pending)
 
 abbrev pub withSlot : Memory → ℕ → Slot → Memory
 withSlot memory s slot = withSlots memory (set (memory .slots) s slot)
 
 abbrev pub withPending : Memory → Pending → Memory
-withPending memory pending = memoryOf (memory .blocks) (memory .sam) (memory .com) (memory .slots) pending
+withPending memory pending = memoryOf (memory .blocks) (memory .cursor) (memory .sam) (memory .com) (memory .slots) pending
 
--- a volume just opened: "all seats idle, COM equal to SAM"
+-- a volume just opened: "all seats idle, COM equal to SAM". Document 02, job 6: the block to be searched first is "0 after opening"
 abbrev pub quietMemory : ℕ → Bitmap → Pending → Memory
-quietMemory blocks sam pending = memoryOf blocks sam sam (replicate slotCount idleSlot) pending
+quietMemory blocks sam pending = memoryOf blocks 0 sam sam (replicate slotCount idleSlot) pending
 
 -- the memory of zeros
 abbrev pub zeroMemory : Memory

@@ -35,9 +35,10 @@ pub enum Pending {
     Recovery { done: u32, due: u32 },
 }
 
-// The memory: the block count m, SAM, COM, the eight slots and the pending work.
+// The memory: the block count m, the cursor (the block to be searched first), SAM, COM, the eight slots and the pending work.
 pub struct Memory {
     pub blocks: u32,
+    pub cursor: u32,
     pub sam: Bitmap,
     pub com: Bitmap,
     pub slots: [Slot; 8],
@@ -86,11 +87,19 @@ impl Slot {
 
 impl Memory {
     // The one place in the code that writes a whole memory.
-    pub fn new(blocks: u32, sam: Bitmap, com: Bitmap, slots: [Slot; 8], pending: Pending) -> Memory
-        ensures { λ r. ⌜ r ≡ memoryOf blocks sam «com» slots pending ⌝ }
+    pub fn new(
+        blocks: u32,
+        cursor: u32,
+        sam: Bitmap,
+        com: Bitmap,
+        slots: [Slot; 8],
+        pending: Pending,
+    ) -> Memory
+        ensures { λ r. ⌜ r ≡ memoryOf blocks cursor sam «com» slots pending ⌝ }
     {
         Memory {
             blocks,
+            cursor,
             sam,
             com,
             slots,
@@ -98,12 +107,12 @@ impl Memory {
         }
     }
 
-    // A volume with all slots idle and COM equal to SAM.
+    // A volume with all slots idle, COM equal to SAM, to be searched from block 0 on.
     pub fn quiet(blocks: u32, sam: Bitmap, pending: Pending) -> Memory
         ensures { λ r. ⌜ r ≡ quietMemory blocks sam pending ⌝ }
     {
         let slots = [Slot::idle(); 8];
-        Memory::new(blocks, sam, sam, slots, pending)
+        Memory::new(blocks, 0, sam, sam, slots, pending)
     }
 
     // The memory of zeros. It isn't valid.
@@ -120,7 +129,7 @@ impl Memory {
         let sam = self.sam;
         let com = self.com;
         let slots = self.slots;
-        Memory::new(self.blocks, sam, com, slots, pending)
+        Memory::new(self.blocks, self.cursor, sam, com, slots, pending)
     }
 }
 

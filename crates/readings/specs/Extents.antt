@@ -9,6 +9,7 @@ use Rattle.bitmap.specs.Sizes.{bitmapWords, maxCount, blocksInRange, countInRan
 use Rattle.bitmap.specs.Bits.{isSet, bit, wordOf, wordsOf, bitmapOf, noBitsFrom}
 use Rattle.bitmap.specs.Blocks.{scan, from, isAvailable, member, allBelow}
 use Rattle.bitmap.specs.Extents.{adjoining, isStart, starts, distance, nearer, nearestOf, nearest}
+use Rattle.bitmap.specs.Round.{wrapped, afterLast}
 use Rattle.model_types.specs.declared.memory.Memory.{Memory}
 use Rattle.model_types.specs.declared.memory.Pending.the-variants.{Nothing}
 use Rattle.model_types.specs.Answers.{granted, grantNumber, grantValue}
@@ -65,7 +66,7 @@ found =
     ∷ []
 
 computed : sameRows extents found ≡ true
-unfolding sameRows extents found list open1 granted1 number1 xor isSet bit wordOf wordsOf bitmapOf noBitsFrom scan from isAvailable member allBelow adjoining isStart starts distance nearer nearestOf nearest granted isNothing firstOr first unlessRefused memoryInvalid nothingPending workPending slotOutOfRange slotActive slotInactive slotPrecommitted countOutOfRange listShort blockOutOfRange extentStarts noExtent startError started startMemory precommitError precommitting precommitMemory taking allocateExtentError nearestExtent allocateExtentAnswer allocateExtentMemory allocateExtentList touched sameWords allSlots slotValid touches touchesAgree isQuiet pendingValid valid blocksInRange countInRange slotInRange
+unfolding sameRows extents found list open1 granted1 number1 xor isSet bit wordOf wordsOf bitmapOf noBitsFrom scan from isAvailable member allBelow adjoining isStart starts distance nearer nearestOf nearest granted isNothing firstOr first unlessRefused memoryInvalid nothingPending workPending slotOutOfRange slotActive slotInactive slotPrecommitted countOutOfRange listShort blockOutOfRange extentStarts noExtent startError started startMemory precommitError precommitting precommitMemory wrapped afterLast taking allocateExtentError nearestExtent allocateExtentAnswer allocateExtentMemory allocateExtentList touched sameWords allSlots slotValid touches touchesAgree isQuiet pendingValid valid blocksInRange countInRange slotInRange
 computed = refl
 
 pub extents-found : extents ≡ found

@@ -13,9 +13,10 @@ use Rattle.model.specs.Sizes.{logWords}
 use Rattle.model.specs.Completion.{afterStores}
 use Rattle.bitmap.specs.Bits.{isSet, bit, wordOf, wordsOf, bitmapOf, noBitsFrom}
 use Rattle.bitmap.specs.Blocks.{scan, from, allocatedBlocks, isAvailable, availableBlocks, isAllocating, allocatingBlocks, isFreeing, freeingBlocks, isHeld, heldBlocks, member, allBelow}
+use Rattle.bitmap.specs.Round.{roundFrom, wrapped, afterLast}
 use Rattle.bitmap.specs.Majority.{majority}
 use Rattle.model_types.specs.Answers.{done, granted, due, counted, doneNumber, grantNumber, storesNumber, storesValue}
-use Rattle.model.specs.Calls.Allocate.{allocateError, lowest, taking, allocateAnswer, allocateMemory, allocateList}
+use Rattle.model.specs.Calls.Allocate.{allocateError, met, firstMet, taking, allocateAnswer, allocateMemory, allocateList}
 use Rattle.model.specs.Calls.CommitCost.{commitCostError, touchedBlocks, costFor, commitCost, commitCostAnswer}
 use Rattle.model.specs.Calls.Committing.{commitError, committing, commitAnswer, commitMemory}
 use Rattle.model.specs.Calls.Deallocate.{deallocateError, freeing, deallocateAnswer, deallocateMemory}
@@ -156,7 +157,7 @@ priced =
     ∷ []
 
 computed : (sameRows readings expected && (sameRows nursery told && sameRows costs priced)) ≡ true
-unfolding sameRows expected told priced list sam0 disk0 word0 flat figures readings nursery costs xor isSet bit wordOf wordsOf bitmapOf noBitsFrom scan from allocatedBlocks isAvailable availableBlocks isAllocating allocatingBlocks isFreeing freeingBlocks isHeld heldBlocks member allBelow majority done granted due counted commitCostError touchedBlocks costFor commitCost commitCostAnswer allocateError lowest taking allocateAnswer allocateMemory allocateList commitError committing commitAnswer commitMemory deallocateError freeing deallocateAnswer deallocateMemory openError recoveryDue recoveryPending opened openAnswer openMemory precommitError precommitting precommitAnswer precommitMemory startError started startAnswer startMemory statusError allocated activeSlots counts statusAnswer storeError stillDue advanced nextStored storeAnswer storeMemory storeDisk memoryInvalid diskLengthWrong diskBlocksWrong diskBitmapWrong diskLogWrong diskMismatched isNothing nothingPending workPending slotOutOfRange slotActive slotInactive slotPrecommitted slotNotPrecommitted countOutOfRange countTooLarge listShort available tooFewAvailable blockOutOfRange blockFree blockFreeing committedSam entriesOf changedOf commitDue refreshed committed lengthIn entriesIn logEntries entriesValid logValid durable dueStores entriesAgree recoveryMatches diskMatches firstOr first unlessRefused touched storesDone storesDue oneMoreDone finished writes changesFrom logStores checkpointWith journalWith checkpointStores commitStores blocksInRange countInRange slotInRange sameWords allSlots slotValid touches touchesAgree isQuiet pendingValid valid
+unfolding sameRows expected told priced list sam0 disk0 word0 flat figures readings nursery costs xor isSet bit wordOf wordsOf bitmapOf noBitsFrom scan from allocatedBlocks isAvailable availableBlocks isAllocating allocatingBlocks isFreeing freeingBlocks isHeld heldBlocks member allBelow majority done granted due counted commitCostError touchedBlocks costFor commitCost commitCostAnswer allocateError roundFrom wrapped afterLast met firstMet taking allocateAnswer allocateMemory allocateList commitError committing commitAnswer commitMemory deallocateError freeing deallocateAnswer deallocateMemory openError recoveryDue recoveryPending opened openAnswer openMemory precommitError precommitting precommitAnswer precommitMemory startError started startAnswer startMemory statusError allocated activeSlots counts statusAnswer storeError stillDue advanced nextStored storeAnswer storeMemory storeDisk memoryInvalid diskLengthWrong diskBlocksWrong diskBitmapWrong diskLogWrong diskMismatched isNothing nothingPending workPending slotOutOfRange slotActive slotInactive slotPrecommitted slotNotPrecommitted countOutOfRange countTooLarge listShort available tooFewAvailable blockOutOfRange blockFree blockFreeing committedSam entriesOf changedOf commitDue refreshed committed lengthIn entriesIn logEntries entriesValid logValid durable dueStores entriesAgree recoveryMatches diskMatches firstOr first unlessRefused touched storesDone storesDue oneMoreDone finished writes changesFrom logStores checkpointWith journalWith checkpointStores commitStores blocksInRange countInRange slotInRange sameWords allSlots slotValid touches touchesAgree isQuiet pendingValid valid
 computed = refl
 
 both : (sameRows nursery told && sameRows costs priced) ≡ true

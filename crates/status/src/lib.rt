@@ -58,12 +58,13 @@ pub fn status(memory: Memory) -> Measured
     ensures leaves { λ r. ⌜ r .memory ≡ memory ⌝ }
 {
     let blocks = memory.blocks;
+    let first = memory.cursor;
     let sam = memory.sam;
     let com = memory.com;
     let slots = memory.slots;
     let pending = memory.pending;
     let owner = slots[pending.owner()];
-    let sound = valid(blocks, &sam.words, &com.words, slots, pending, owner);
+    let sound = valid(blocks, first, &sam.words, &com.words, slots, pending, owner);
     let tally = count_blocks(&sam.words, &com.words);
     let active = count_active(slots);
     let answer = counted(sound, blocks, tally, active);

@@ -23,13 +23,14 @@ pub fn store(mut memory: Memory, disk: &mut [u32]) -> Stored
     ensures writes { λ _. ⌜ now (disk .exit) ≡ storeDisk memory (now (disk .entry)) ⌝ }
 {
     let blocks = memory.blocks;
+    let first = memory.cursor;
     let mut sam = memory.sam;
     let com = memory.com;
     let mut slots = memory.slots;
     let mut pending = memory.pending;
     let at = pending.owner();
     let owner = slots[at];
-    let sound = valid(blocks, &sam.words, &com.words, slots, pending, owner);
+    let sound = valid(blocks, first, &sam.words, &com.words, slots, pending, owner);
     let verdict = judge(sound, blocks, &sam.words, &owner.tam.words, pending, disk);
     let mut answer = verdict.stores(0);
     if verdict.is_accepted() {

@@ -23,15 +23,16 @@ pub mod pending;
 // would be touches that aren't left.
 pub fn maps_valid<'a>(
     blocks: u32,
+    cursor: u32,
     sam: &'a [u32; 128],
     com: &'a [u32; 128],
     slots: [Slot; 8],
 ) -> bool
     requires { ⌜ IsBitmap (now sam) ⌝ }
     requires { ⌜ IsBitmap (now «com») ⌝ }
-    ensures { λ r. ⌜ r ≡ valid (memoryOf blocks (bitmap (now (sam .entry))) (bitmap (now («com» .entry))) slots Pending.Nothing) ⌝ }
+    ensures { λ r. ⌜ r ≡ valid (memoryOf blocks cursor (bitmap (now (sam .entry))) (bitmap (now («com» .entry))) slots Pending.Nothing) ⌝ }
 {
-    if !volume_valid(blocks, sam, com) {
+    if !volume_valid(blocks, cursor, sam, com) {
         return false;
     }
     let mut left = [0; 128];
@@ -57,6 +58,7 @@ pub fn maps_valid<'a>(
 // Whether a memory is valid. The owner is the slot that the pending work is to be looked up in.
 pub fn valid<'a>(
     blocks: u32,
+    cursor: u32,
     sam: &'a [u32; 128],
     com: &'a [u32; 128],
     slots: [Slot; 8],
@@ -66,9 +68,9 @@ pub fn valid<'a>(
     requires { ⌜ IsBitmap (now sam) ⌝ }
     requires { ⌜ IsBitmap (now «com») ⌝ }
     requires { ⌜ owner ≡ getD slots (ownerOf pending) idleSlot ⌝ }
-    ensures { λ r. ⌜ r ≡ valid (memoryOf blocks (bitmap (now (sam .entry))) (bitmap (now («com» .entry))) slots pending) ⌝ }
+    ensures { λ r. ⌜ r ≡ valid (memoryOf blocks cursor (bitmap (now (sam .entry))) (bitmap (now («com» .entry))) slots pending) ⌝ }
 {
-    if !maps_valid(blocks, sam, com, slots) {
+    if !maps_valid(blocks, cursor, sam, com, slots) {
         return false;
     }
     match pending {

@@ -39,7 +39,7 @@ pub fn commit_valid(
     done < due
 }
 
-// During a recovery all slots are idle, COM equals SAM, and there are 2 to W + 1 stores.
+// During a recovery all slots are idle, COM equals SAM, and there are 2 to W + 1 stores. The cursor plays no part.
 pub fn recovery_valid<'a>(
     blocks: u32,
     sam: &'a [u32; 128],
@@ -51,7 +51,7 @@ pub fn recovery_valid<'a>(
     requires { ⌜ blocks ≤ maxBlocks ⌝ }
     requires { ⌜ IsBitmap (now sam) ⌝ }
     requires { ⌜ IsBitmap (now «com») ⌝ }
-    ensures { λ r. ⌜ r ≡ pendingValid (memoryOf blocks (bitmap (now (sam .entry))) (bitmap (now («com» .entry))) slots (Pending.Recovery done due)) (Pending.Recovery done due) ⌝ }
+    ensures { λ r. ⌜ r ≡ pendingValid (memoryOf blocks 0 (bitmap (now (sam .entry))) (bitmap (now («com» .entry))) slots (Pending.Recovery done due)) (Pending.Recovery done due) ⌝ }
 {
     for s in 0..Bitmap::SLOTS {
         let slot = slots[s];

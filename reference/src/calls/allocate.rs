@@ -1,15 +1,17 @@
-//! The allocation of blocks to a transaction.
+//! The allocation of blocks to a transaction: the first ones met from the cursor on (document 02,
+//! job 6).
 
 use super::readiness::open_slot;
 use crate::bitmap::Bitmap;
 use crate::error::{require, Error};
 use crate::memory::Memory;
+use std::iter::once;
 
 /// The most blocks that one call allocates.
 pub const MAX_COUNT: u32 = 64;
 
-/// Allocates the `count` lowest available blocks. Their numbers go to the first places of the
-/// list, rising; later places stay.
+/// Allocates the first `count` available blocks met from the cursor on, round at m. Their numbers
+/// go to the first places of the list in the order met; later places stay.
 pub fn allocate(memory: &mut Memory, slot: u32, count: u32, list: &mut [u32]) -> Result<(), Error> {
     let index = slot_to_list(memory, slot, count, list)?;
     require(available_blocks(memory) >= count, Error::TooFewAvailable)?;
@@ -37,11 +39,12 @@ pub(super) fn available_blocks(memory: &Memory) -> u32 {
     memory.blocks - used
 }
 
-/// Gives the slot as many of the lowest available blocks as the list has places.
+/// Gives the slot the first available blocks met, as many as the list has places, of which there
+/// are enough.
 fn grant(memory: &mut Memory, index: usize, list: &mut [u32]) {
     let mut listed = 0;
-    for word in 0..Bitmap::WORDS {
-        let taken = list_lowest(memory.available_in(word), word, &mut list[listed..]);
+    for (word, bits) in words_in_turn(memory.cursor, memory.blocks) {
+        let taken = list_rising(memory.available_in(word) & bits, word, &mut list[listed..]);
         memory.com.words[word] |= taken;
         memory.slots[index].tam.words[word] |= taken;
         listed += taken.count_ones() as usize;
@@ -49,10 +52,21 @@ fn grant(memory: &mut Memory, index: usize, list: &mut [u32]) {
             break;
         }
     }
+    memory.carry_on_after(list[list.len() - 1]);
 }
 
-/// Lists the lowest available blocks of one word while there are places, and gives their bits.
-fn list_lowest(available: u32, word: usize, places: &mut [u32]) -> u32 {
+/// The words in the order of the search, each with the bits that are looked at then. The cursor's
+/// word comes first, from the cursor on, and last, up to it.
+fn words_in_turn(cursor: u32, blocks: u32) -> impl Iterator<Item = (usize, u32)> {
+    let (first, from_cursor) = Bitmap::from_block(cursor);
+    let whole = (first + 1..Bitmap::words_for(blocks) as usize).chain(0..first);
+    once((first, from_cursor))
+        .chain(whole.map(|word| (word, u32::MAX)))
+        .chain(once((first, !from_cursor)))
+}
+
+/// Lists the lowest of these blocks of one word while there are places, and gives their bits.
+fn list_rising(available: u32, word: usize, places: &mut [u32]) -> u32 {
     let mut left = available;
     for place in places.iter_mut().take(available.count_ones() as usize) {
         *place = word as u32 * Bitmap::WORD_BITS + left.trailing_zeros();

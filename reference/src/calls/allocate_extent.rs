@@ -7,7 +7,7 @@ use crate::memory::Memory;
 
 /// Allocates `count` adjoining available blocks, those whose first is nearest to the block `near`,
 /// the lower one at equal distance, and gives the first. Their numbers go to the first places of
-/// the list, rising; later places stay.
+/// the list, rising; later places stay. The next allocate carries on behind them.
 pub fn allocate_extent(
     memory: &mut Memory,
     slot: u32,
@@ -23,6 +23,7 @@ pub fn allocate_extent(
         memory.com.set(block);
         memory.slots[index].tam.set(block);
     }
+    memory.carry_on_after(start + count - 1);
     Ok(start)
 }
 

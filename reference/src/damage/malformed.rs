@@ -9,7 +9,7 @@ use crate::line::Line;
 use crate::test_line::TestLine;
 
 const MOST_LINES: u32 = 3;
-const WRONG_LINES: [&str; 56] = [
+const WRONG_LINES: [&str; 62] = [
     "show ",
     " show",
     "show 0",
@@ -65,6 +65,12 @@ const WRONG_LINES: [&str; 56] = [
     "pending 0 0 0",
     "list",
     "blocks",
+    "cursor",
+    "cursor 0 ",
+    "cursor 0 0",
+    "Cursor 0",
+    "cursor 4294967296",
+    "op=cursor seat=0 n=0",
     "seat 0 1",
 ];
 
@@ -114,6 +120,7 @@ impl Damage {
         let line = self.random.choose(&[
             TestLine::Disk { index, word },
             TestLine::Length { words: 386 },
+            TestLine::Cursor { block: index },
             TestLine::Sam { index, word },
             TestLine::Tam { slot, index, word },
             TestLine::State { slot, code: 1 },

@@ -1,4 +1,5 @@
-//! Small changes to the memory's bitmaps, slots and block count, most of which make it invalid.
+//! Small changes to the memory's bitmaps, slots, block count and cursor, most of which make it
+//! invalid.
 
 use super::Damage;
 use crate::bitmap::Bitmap;
@@ -6,6 +7,10 @@ use crate::codes::slot_state_code;
 use crate::line::Operation;
 use crate::memory::{Memory, Pending, SlotState};
 use crate::test_line::TestLine;
+
+const SPOILED_IN_WORK_IN: u32 = 3;
+/// Cursors that no volume has a block for.
+const CURSORS_ABOVE: [u32; 6] = [4096, 4097, 65_536, 1 << 31, u32::MAX - 1, u32::MAX];
 
 /// A bitmap of the memory.
 #[derive(Clone, Copy)]
@@ -17,7 +22,7 @@ enum Map {
 
 impl Damage {
     pub(super) fn damage_memory(&mut self) {
-        match self.random.below(13) {
+        match self.random.below(15) {
             0 | 1 => self.flip_a_bit(),
             2 => self.flip_an_outer_bit(),
             3 => {
@@ -28,6 +33,7 @@ impl Damage {
             6 | 7 => self.change_state(),
             8 => self.change_blocks(),
             9..=11 => self.change_pending(),
+            12 | 13 => self.spoil_cursor(),
             _ => self.replace_a_word(),
         }
     }
@@ -93,6 +99,17 @@ impl Damage {
         let (less, more) = (blocks.wrapping_sub(1), blocks.wrapping_add(1));
         let blocks = self.random.choose(&[0, less, less, more, 1, 4096, 4097, u32::MAX]);
         self.alter(TestLine::Blocks { blocks });
+    }
+
+    /// A cursor of m or above, often m itself, now and then while work is pending.
+    fn spoil_cursor(&mut self) {
+        if self.random.one_in(SPOILED_IN_WORK_IN) {
+            self.come_to_work();
+        }
+        let above = self.random.choose(&CURSORS_ABOVE);
+        let blocks = self.state.memory.blocks;
+        let block = self.random.choose(&[blocks, blocks, blocks.saturating_add(1), above, above]);
+        self.alter(TestLine::Cursor { block });
     }
 
     fn replace_a_word(&mut self) {

@@ -32,15 +32,23 @@ impl Damage {
 
     /// Changes the memory so that it stays valid.
     pub(super) fn change_validly(&mut self) {
-        match self.random.below(4) {
+        match self.random.below(5) {
             _ if self.state.memory.blocks < LEAST_BLOCKS => self.move_the_end(),
             0 => {
                 let block = self.volume_block();
                 self.flip_everywhere(block);
             }
             1 => self.move_the_end(),
+            2 => self.move_the_cursor(),
             _ => self.replace_a_word_everywhere(),
         }
+    }
+
+    /// Another cursor, often the last block: from there an allocate soon goes round to block 0.
+    pub(super) fn move_the_cursor(&mut self) {
+        let last = self.state.memory.blocks.saturating_sub(1);
+        let block = if self.random.one_in(2) { last } else { self.volume_block() };
+        self.alter(TestLine::Cursor { block });
     }
 
     fn touch_in_some_slots(&mut self) {
@@ -59,12 +67,21 @@ impl Damage {
         let any = least + self.random.below(Bitmap::MAX_BLOCKS + 1 - least);
         let edge = least.next_multiple_of(Bitmap::WORD_BITS);
         let blocks = self.random.choose(&[least, edge, any, Bitmap::MAX_BLOCKS]);
-        self.alter(TestLine::Blocks { blocks });
+        self.put_blocks(blocks);
     }
 
     /// As few blocks as there can be, for fewer available ones.
     pub(super) fn cut_off_the_end(&mut self) {
         let blocks = self.least_blocks();
+        self.put_blocks(blocks);
+    }
+
+    /// Sets the block count, not 0, and before it a cursor that it would leave outside.
+    fn put_blocks(&mut self, blocks: u32) {
+        if self.state.memory.cursor >= blocks {
+            let block = self.random.choose(&[0, blocks - 1]);
+            self.alter(TestLine::Cursor { block });
+        }
         self.alter(TestLine::Blocks { blocks });
     }
 

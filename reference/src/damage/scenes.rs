@@ -7,6 +7,7 @@ use crate::line::Operation;
 use crate::memory::{Memory, SlotState};
 
 const CRASH_IN: u32 = 10;
+const UNMOVED_CURSOR_IN: u32 = 4;
 const FOREIGN_DISK_IN: u32 = 6;
 const MISMATCH_AT_REST_IN: u32 = 3;
 
@@ -30,7 +31,13 @@ impl Damage {
     fn prepare_acceptance(&mut self, operation: Operation) -> Option<(u32, u32)> {
         match operation {
             Operation::Start => Some((self.slot_in(SlotState::Idle)?, 0)),
-            Operation::Allocate => Some((self.slot_in(SlotState::Open)?, self.right_count()?)),
+            Operation::Allocate => {
+                let arguments = (self.slot_in(SlotState::Open)?, self.right_count()?);
+                if !self.random.one_in(UNMOVED_CURSOR_IN) {
+                    self.move_the_cursor();
+                }
+                Some(arguments)
+            }
             Operation::Deallocate => {
                 Some((self.slot_in(SlotState::Open)?, self.block_with(true, true)?))
             }

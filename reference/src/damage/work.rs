@@ -9,6 +9,8 @@ use crate::memory::{Memory, Pending, SlotState};
 const MOST_STORES: u32 = 24;
 const MOST_TOUCHES: u32 = 4;
 const WRONG_ROLLBACK_IN: u32 = 3;
+/// One in this many allocates has another cursor.
+const MOVED_CURSOR_IN: u32 = 4;
 
 impl Damage {
     /// Sees to it that nothing is pending, unless too many stores are left.
@@ -59,6 +61,9 @@ impl Damage {
             }
             _ => {
                 if let Some(count) = self.right_count() {
+                    if self.random.one_in(MOVED_CURSOR_IN) {
+                        self.move_the_cursor();
+                    }
                     self.call(Operation::Allocate, slot, count);
                 }
             }

@@ -11,6 +11,9 @@ use crate::test_line::TestLine;
 
 const SHOW_IN: u32 = 70;
 const ALLOCATE_IN: u32 = 60;
+/// One in this many extents is followed by an allocate, which carries on behind it.
+const FOLLOWED_IN: u32 = 30;
+const MOVED_CURSOR_IN: u32 = 2;
 const DEALLOCATE_IN: u32 = 60;
 const SHORT_LIST_IN: u32 = 70;
 const LONG_LIST_IN: u32 = 4;
@@ -44,17 +47,32 @@ impl Extents {
             let slot = self.random.choose(&touched);
             self.start_anew(slot);
         } else if self.random.one_in(ALLOCATE_IN) {
-            let (slot, count) = (self.open_slot(), 1 + self.random.below(4));
-            self.call(Operation::Allocate, slot, count);
+            if self.random.one_in(MOVED_CURSOR_IN) {
+                let block = self.any_cursor(self.state.memory.blocks);
+                self.alter(TestLine::Cursor { block });
+            }
+            self.allocate_a_few();
         } else if self.random.one_in(DEALLOCATE_IN) {
             self.free_a_block();
         } else {
-            self.extents_left -= 1;
-            self.lend_another_list();
-            let (slot, count) = (self.any_slot(), self.any_count());
-            let near = self.any_near(count);
-            self.alter(TestLine::Extent { slot, count, near });
+            self.make_an_extent();
+            if self.random.one_in(FOLLOWED_IN) {
+                self.allocate_a_few();
+            }
         }
+    }
+
+    fn make_an_extent(&mut self) {
+        self.extents_left -= 1;
+        self.lend_another_list();
+        let (slot, count) = (self.any_slot(), self.any_count());
+        let near = self.any_near(count);
+        self.alter(TestLine::Extent { slot, count, near });
+    }
+
+    fn allocate_a_few(&mut self) {
+        let (slot, count) = (self.open_slot(), 1 + self.random.below(4));
+        self.call(Operation::Allocate, slot, count);
     }
 
     /// Rolls an open slot back, now and then as a precommitted one, and starts it anew. The call

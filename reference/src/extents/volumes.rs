@@ -47,6 +47,7 @@ impl Extents {
         if by_test_lines {
             open_slots(&mut self.random, &mut memory, workers);
         }
+        memory.cursor = self.any_cursor(blocks);
         self.call(Operation::Crash, 0, 0);
         self.alter(TestLine::List { places: MAX_COUNT });
         memory_lines(&Memory::ZEROS, &memory).into_iter().for_each(|line| self.alter(line));
@@ -98,6 +99,15 @@ impl Extents {
 
     fn within(&mut self, (least, most): (u32, u32)) -> u32 {
         least + self.random.below(most + 1 - least)
+    }
+
+    /// Often the last block, from which an allocate soon goes round to block 0.
+    pub(super) fn any_cursor(&mut self, blocks: u32) -> u32 {
+        match self.random.below(6) {
+            0 => 0,
+            1 | 2 => blocks - 1,
+            _ => self.random.below(blocks),
+        }
     }
 
     fn any_usual_count(&mut self, blocks: u32) -> u32 {

@@ -2,12 +2,13 @@
 
 use super::{History, Phase, Plan};
 use crate::bitmap::Bitmap;
+use crate::calls::MAX_COUNT;
 use crate::line::{Line, Operation};
 use crate::memory::{Memory, Pending, SlotState};
 
 /// Block counts near which words and limits end.
-const EDGE_BLOCKS: [u32; 17] =
-    [1, 2, 31, 32, 33, 63, 64, 65, 96, 127, 129, 1000, 4063, 4064, 4065, 4095, 4096];
+const EDGE_BLOCKS: [u32; 20] =
+    [1, 2, 31, 32, 33, 63, 64, 65, 95, 96, 97, 127, 128, 129, 1000, 4063, 4064, 4065, 4095, 4096];
 const STRAY_IN: u32 = 25;
 const CRASH_IN: u32 = 600;
 const OPEN_IN: u32 = 900;
@@ -19,13 +20,17 @@ const UNTOUCHED_IN: u32 = 20;
 const SHORT_IN: u32 = 4;
 const MOST_SHORT_TOUCHES: u32 = 2;
 /// One in this many transactions is dropped when it has made its touches.
-const DROP_IN: u32 = 14;
+const DROP_IN: u32 = 10;
 const SHORT_DROP_IN: u32 = 3;
 /// One in this many precommitted transactions is revoked.
-const REVOKE_IN: u32 = 10;
+const REVOKE_IN: u32 = 8;
 const SHORT_REVOKE_IN: u32 = 2;
+/// A block soon to be granted anew is this many words ahead of the cursor, or fewer.
+const WORDS_AHEAD: u32 = 4;
+/// One in this many allocates that can reach the end of the volume ends there.
+const TO_THE_END_IN: u32 = 6;
 /// One in this many lines of an open slot is a revoke, and of a precommitted one a drop.
-const WRONG_REVOKE_IN: u32 = 120;
+const WRONG_REVOKE_IN: u32 = 100;
 const WRONG_DROP_IN: u32 = 8;
 
 const STRAY_OPERATIONS: [Operation; 13] = [
@@ -182,25 +187,50 @@ impl History {
         match block {
             Some(block) if wants_free || available == 0 => line(Operation::Deallocate, slot, block),
             _ if available == 0 => line(Operation::Precommit, slot, 0),
-            _ => {
-                let count = 1 + self.random.below(self.phase.most_blocks);
-                let beyond = self.random.one_in(8);
-                let count = if beyond { count } else { count.min(available) };
-                line(Operation::Allocate, slot, count)
-            }
+            _ => line(Operation::Allocate, slot, self.choose_count(available)),
         }
     }
 
-    /// A block among those with a 1, if there is one: often a low one, which is soon granted anew.
+    /// Mostly not more blocks than are available. Where the end of the volume is near, it is often
+    /// just reached, or passed by one block.
+    fn choose_count(&mut self, available: u32) -> u32 {
+        let count = 1 + self.random.below(self.phase.most_blocks);
+        let to_the_end = to_the_end(&self.bench.memory);
+        if to_the_end <= MAX_COUNT && self.random.one_in(TO_THE_END_IN) {
+            return self.random.choose(&[to_the_end.max(1), (to_the_end + 1).min(available)]);
+        }
+        let beyond = self.random.one_in(8);
+        if beyond {
+            count
+        } else {
+            count.min(available)
+        }
+    }
+
+    /// A block among those with a 1, if there is one: often one not far ahead of the cursor, which is
+    /// soon granted anew.
     fn choose_block(&mut self, words: &[u32; Bitmap::WORDS]) -> Option<u32> {
-        let used_words = Bitmap::words_for(self.bench.memory.blocks);
-        let first = if self.random.one_in(4) { 0 } else { self.random.below(used_words) as usize };
+        let Memory { blocks, cursor, .. } = self.bench.memory;
+        let first = if self.random.one_in(2) {
+            cursor / Bitmap::WORD_BITS + 1 + self.random.below(WORDS_AHEAD)
+        } else {
+            self.random.below(Bitmap::words_for(blocks))
+        };
+        let first = first as usize % Bitmap::WORDS;
         let order = (first..Bitmap::WORDS).chain(0..first);
         let word = order.into_iter().find(|word| words[*word] != 0)?;
         let turn = self.random.below(Bitmap::WORD_BITS);
         let bit = words[word].rotate_right(turn).trailing_zeros() + turn;
         Some(word as u32 * Bitmap::WORD_BITS + bit % Bitmap::WORD_BITS)
     }
+}
+
+/// The available blocks from the cursor to the end of the volume, or just more than can be allocated
+/// in one call.
+fn to_the_end(memory: &Memory) -> u32 {
+    let from_cursor = memory.cursor..memory.blocks;
+    let most = MAX_COUNT as usize + 1;
+    from_cursor.filter(|block| memory.is_available(*block)).take(most).count() as u32
 }
 
 fn and_words(one: &Bitmap, other: &Bitmap) -> [u32; Bitmap::WORDS] {

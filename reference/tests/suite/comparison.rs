@@ -1,5 +1,6 @@
 //! The comparison of an allocator with the ledger, after every call of a history.
 
+use crate::allocates::{allocate_by_blocks, cursor_after};
 use crate::extents::Asked;
 use crate::rollbacks::answer_by_words;
 use reference::bench::Bench;
@@ -56,13 +57,16 @@ pub fn fault_of_steps(
             Some(TestLine::Extent { slot, count, near }) => {
                 let answer = extent_step(&mut bench, Asked { slot, count, near });
                 let listed = if answer.is_ok() { &bench.list[..count as usize] } else { &[] };
-                ledger.record(&Call::extent(slot, answer.is_ok(), listed));
+                let call = Call::extent(slot, answer.is_ok(), listed);
+                ledger.record(&call);
+                wrong_answer = wrong_cursor(&before, &bench.memory, &call);
             }
             _ => {
                 let line = parse(&line).unwrap();
                 let answer = step(&mut bench, &line);
                 record(&mut ledger, &line, answer, &bench.list);
-                wrong_answer = wrong_rollback(&before, &line, answer);
+                wrong_answer = wrong_rollback(&before, &line, answer)
+                    .or_else(|| wrong_search(&before, &bench, &line, answer));
             }
         }
         fault(&bench, &ledger).or_else(|| invalid_memory(&bench)).or(wrong_answer)
@@ -76,14 +80,19 @@ pub fn right_extent(bench: &mut Bench, asked: Asked) -> Result<u32, Error> {
 
 /// Enters a line in form with its answer and, for an allocate, the list that it was lent.
 pub fn record(ledger: &mut Ledger, line: &Line, answer: Result<u32, Error>, list: &[u32]) {
+    ledger.record(&call_of(line, answer, list));
+}
+
+/// What the ledger is told of it.
+pub fn call_of<'a>(line: &Line, answer: Result<u32, Error>, list: &'a [u32]) -> Call<'a> {
     let lists = line.operation == Operation::Allocate && answer.is_ok();
-    ledger.record(&Call {
+    Call {
         operation: line.operation,
         slot: line.slot,
         block: line.number,
         accepted: answer.is_ok(),
         listed: if lists { &list[..line.number as usize] } else { &[] },
-    });
+    }
 }
 
 /// Demand 3 after one call: it opens a copy of the disk and makes the stores due.
@@ -131,4 +140,31 @@ fn wrong_rollback(
         }
         _ => None,
     }
+}
+
+/// The ledger doesn't ask which blocks an allocate grants, in which order, and where the next search
+/// begins.
+fn wrong_search(
+    before: &Memory,
+    bench: &Bench,
+    line: &Line,
+    answer: Result<u32, Error>,
+) -> Option<&'static str> {
+    let call = call_of(line, answer, &bench.list);
+    let expected = match line.operation {
+        Operation::Allocate => {
+            allocate_by_blocks(before, bench.list.len(), line.slot, line.number).ok()
+        }
+        _ => None,
+    };
+    match expected {
+        Some(listed) if listed != call.listed || answer != Ok(listed[0]) => {
+            Some("an allocate lists other blocks")
+        }
+        _ => wrong_cursor(before, &bench.memory, &call),
+    }
+}
+
+fn wrong_cursor(before: &Memory, after: &Memory, call: &Call) -> Option<&'static str> {
+    (after.cursor != cursor_after(before, call)).then_some("the next search begins elsewhere")
 }

@@ -13,7 +13,7 @@ use reference::{program, Error};
 const LINES: usize = 10_000;
 /// Seeds and block counts.
 const HISTORIES: [(u64, u32); 7] =
-    [(1, 0), (2, 0), (3, 0), (4, 33), (5, 200), (6, 1000), (7, 4096)];
+    [(1, 0), (2, 0), (3, 0), (4, 33), (5, 200), (6, 1000), (8, 4096)];
 
 fn plain(seed: u64, blocks: u32, malformed: bool) -> Vec<Vec<u8>> {
     let shape = Shape { blocks, malformed, reformats: true, extents: false };

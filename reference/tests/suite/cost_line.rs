@@ -103,7 +103,8 @@ fn lines_not_in_form_get_21() {
 #[test]
 fn it_needs_no_list_and_no_disk() {
     let output = inspect(&format!("{BUSY_LINES}{MORE}list 0\nlength 0\ncost 3 5\nshow\n"));
-    assert!(output.contains("call=26 answer=0 value=8\ncall=27 answer=0 value=0\nblocks=40\n"));
+    assert!(output
+        .contains("call=26 answer=0 value=8\ncall=27 answer=0 value=0\nblocks=40\ncursor=35\n"));
     assert!(output.ends_with("disk length=0\nlist length=0\n"));
 }
 

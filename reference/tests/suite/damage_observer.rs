@@ -19,6 +19,8 @@ pub struct Seen {
     /// By the error's code and the operation.
     pub refused: [[u32; Operation::ALL.len()]; 21],
     pub not_in_form: u32,
+    /// Of those, almost a cursor line.
+    pub cursors_not_in_form: u32,
     pub out_of_range: u32,
     pub shows: u32,
     pub finished_commits: u32,
@@ -29,6 +31,9 @@ pub struct Seen {
     /// of the parity would miss it, and with nothing wrong but bits from m on.
     pub several_touches: u32,
     pub outer_bits: u32,
+    /// Refused with cause 1 with nothing wrong but the cursor: m, above m; with nothing pending, with
+    /// work pending.
+    pub cursors: [[u32; 2]; 2],
     /// The lengths of disks refused with cause 2.
     pub lengths: BTreeSet<usize>,
     /// Refused with cause 5: by the log's length, by a number out of range, equal numbers, falling
@@ -128,6 +133,7 @@ impl Seen {
         self.statuses.not_in_form += almost(b"statu");
         self.costs.not_in_form += almost(b"cost");
         self.extents.not_in_form += almost(b"extent");
+        self.cursors_not_in_form += almost(b"cursor");
     }
 
     fn count_accepted(
@@ -165,6 +171,13 @@ impl Seen {
     }
 
     fn count_invalid(&mut self, memory: &Memory) {
+        if memory.cursor >= memory.blocks {
+            let otherwise_valid = Memory { cursor: 0, ..memory.clone() }.is_valid();
+            let above = usize::from(memory.cursor > memory.blocks);
+            let in_work = usize::from(memory.pending != Pending::Nothing);
+            self.cursors[above][in_work] += u32::from(otherwise_valid);
+            return;
+        }
         let odd_touches = |word: usize| {
             let sam = memory.sam.words[word];
             memory.active_slots().fold(0, |touched, slot| touched ^ slot.tam.words[word] ^ sam)

@@ -118,6 +118,7 @@ fn the_program_inspects() {
     let shown = "call=13 answer=0 value=0
 call=14 answer=0 value=0
 blocks=4
+cursor=0
 pending=2 0 0 2
 sam 0:3
 com 0:3

@@ -128,6 +128,7 @@ fn the_list_keeps_what_it_wrote() {
 fn what_it_alters() {
     let output = after_busy("length 0\nextent 3 3 36\nshow\n");
     let expected = "blocks=40
+cursor=39
 pending=0 0 0 0
 sam 0:4294967295 1:1
 com 0:2147483646 1:118

@@ -1,5 +1,6 @@
 //! Allocate extent as document 02 says it, one block at a time.
 
+use crate::allocates::granted;
 use crate::slots::ready_slot;
 use reference::inspector::Inspector;
 use reference::{Bitmap, Error, Memory, SlotState};
@@ -46,16 +47,13 @@ pub fn is_tie(memory: &Memory, asked: Asked, start: u32) -> bool {
     start < asked.near && is_start(memory, 2 * asked.near - start, asked.count)
 }
 
-/// The state is the former one, but for the blocks of the extent in COM, in the slot's bitmap and
-/// in the first places of the list.
+/// The state is the former one, but for the blocks of the extent in COM, in the slot's bitmap and,
+/// rising, in the first places of the list, and for the cursor behind them.
 pub fn assert_granted(before: &Inspector, after: &Inspector, asked: Asked, start: u32) {
+    let listed: Vec<u32> = (start..start + asked.count).collect();
     let mut expected = before.clone();
-    for place in 0..asked.count {
-        let block = start + place;
-        expected.list[place as usize] = block;
-        put(&mut expected.memory.com, block);
-        put(&mut expected.memory.slots[asked.slot as usize].tam, block);
-    }
+    expected.memory = granted(&before.memory, asked.slot, &listed);
+    expected.list[..listed.len()].copy_from_slice(&listed);
     assert_eq!(*after, expected, "{asked:?} at {start}");
 }
 

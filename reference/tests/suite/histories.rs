@@ -133,7 +133,7 @@ fn the_histories_of_the_ledger_test_are_deep() {
 
 #[test]
 fn a_history_of_60_000_lines_goes_on_committing() {
-    for (seed, blocks, commits, wide) in [(1, 4096, 1000, 100), (2, 33, 1500, 0), (3, 0, 1000, 20)]
+    for (seed, blocks, commits, wide) in [(4, 4096, 1000, 100), (2, 33, 1500, 0), (3, 0, 1000, 20)]
     {
         let shape = Shape { blocks, malformed: true, reformats: true, extents: false };
         let mut observer = Observer::new();

@@ -4,6 +4,7 @@ use reference::history::{History, Shape};
 use reference::program;
 
 const ZEROS: &str = "blocks=0
+cursor=0
 pending=0 0 0 0
 sam
 com
@@ -70,6 +71,7 @@ fn the_state_with_pending_work() {
     let list: String = (0..33).map(|block| format!(" {block}")).collect();
     let expected = format!(
         "blocks=40
+cursor=33
 pending=1 1 2 8
 sam
 com 0:4294967295 1:1
@@ -91,10 +93,31 @@ list length=64{list}{}
 
 #[test]
 fn pending_work_is_shown_by_its_kind() {
-    let pending = |line: &str| shown(line).lines().nth(1).unwrap().to_string();
+    let pending = |line: &str| shown(line).lines().nth(2).unwrap().to_string();
     assert_eq!(pending("pending 0 1 2 3"), "pending=0 0 0 0");
     assert_eq!(pending("pending 1 9 8 4294967295"), "pending=1 9 8 4294967295");
     assert_eq!(pending("pending 2 9 8 7"), "pending=2 0 8 7");
+}
+
+#[test]
+fn the_cursor_is_shown_whatever_it_is() {
+    let cursor = |lines: &str| shown(lines).lines().nth(1).unwrap().to_string();
+    assert_eq!(cursor("cursor 4294967295"), "cursor=4294967295");
+    assert_eq!(cursor("blocks 7\ncursor 7\ncursor 0000000006"), "cursor=6");
+    assert_eq!(cursor(&format!("{PENDING}\ncursor 40")), "cursor=40");
+    assert_eq!(cursor(&format!("{PENDING}\nop=cut seat=0 n=0")), "cursor=0");
+    assert_eq!(cursor(&format!("{PENDING}\nop=open seat=0 n=0")), "cursor=0");
+}
+
+#[test]
+fn the_value_of_an_allocate_is_the_first_block_met() {
+    let lines = "op=format seat=0 n=10\nop=open seat=0 n=0\nop=start seat=0 n=0\ncursor 8
+op=alloc seat=0 n=4\nop=alloc seat=0 n=1\ncursor 10\nop=alloc seat=0 n=1\nop=stat seat=0 n=0
+cost 0 1\nextent 0 1 4\nop=store seat=0 n=0\ncursor 9\nop=alloc seat=0 n=5";
+    let expected = [0, 0, 0, 0, 8, 2, 0, -1, -1, -1, -1, -1, 0, 3];
+    assert_eq!(answers(lines), expected);
+    let last = shown(lines).lines().last().unwrap().to_string();
+    assert!(last.starts_with("list length=64 3 4 5 6 7 0 "), "{last}");
 }
 
 #[test]

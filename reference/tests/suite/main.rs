@@ -1,7 +1,11 @@
 //! The tests of the reference allocator, against documents 01 and 02.
 
 mod agreement;
+mod allocate;
 mod allocate_extent;
+mod allocate_observer;
+mod allocate_sequences;
+mod allocates;
 mod causes;
 mod chains;
 mod commit_cost;
@@ -47,4 +51,5 @@ mod test_lines;
 mod transactions;
 mod valid_memory;
 mod validity;
+mod wrong_searches;
 mod wrong_turns;

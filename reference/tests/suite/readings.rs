@@ -28,7 +28,7 @@ fn figure_3() -> State {
 }
 
 #[test]
-fn p1_to_p3_the_lowest_available_blocks_are_granted() {
+fn p1_to_p3_the_first_available_blocks_met_are_granted() {
     let state = figure_3();
     assert_eq!(state.memory.com, bitmap(15), "P3");
     assert_eq!(state.memory.sam, bitmap(1));

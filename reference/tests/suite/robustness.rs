@@ -1,6 +1,7 @@
 //! Any memory, any disk, any list, any number: no call panics, a refused call leaves all as it was,
 //! and an accepted one leaves a valid memory.
 
+use crate::allocates::allocate_by_blocks;
 use crate::costs::cost_by_blocks;
 use crate::counts::counts_by_blocks;
 use crate::extents::{extent_by_blocks, Asked};
@@ -30,7 +31,12 @@ const CALLS: [AnyCall; 13] = [
         opened.answer
     },
     |s, slot, _, _| start(&mut s.memory, slot).map(|()| 0),
-    |s, slot, number, _| allocate(&mut s.memory, slot, number, &mut s.list).map(|()| 0),
+    |s, slot, number, _| {
+        let expected = allocate_by_blocks(&s.memory, s.list.len(), slot, number);
+        let answer = allocate(&mut s.memory, slot, number, &mut s.list);
+        assert_eq!(answer.map(|()| s.list[..number as usize].to_vec()), expected);
+        answer.map(|()| 0)
+    },
     |s, slot, number, _| deallocate(&mut s.memory, slot, number).map(|()| 0),
     |s, slot, _, _| precommit(&mut s.memory, slot).map(|()| 0),
     |s, slot, _, _| commit(&mut s.memory, slot),
@@ -79,6 +85,7 @@ fn pending(random: &mut Random) -> Pending {
 /// Words without any rule.
 fn any_state(random: &mut Random) -> State {
     let mut memory = Memory::opened(number(random), bitmap(random), pending(random));
+    memory.cursor = number(random);
     memory.com = if random.one_in(2) { memory.sam } else { bitmap(random) };
     for slot in &mut memory.slots {
         let state = random.choose(&[SlotState::Idle, SlotState::Open, SlotState::Precommitted]);
@@ -103,6 +110,9 @@ fn damaged_state(random: &mut Random, bench: &Bench) -> State {
         2 => memory.sam.words[random.below(128) as usize] = number(random),
         3 => memory.com.words[random.below(128) as usize] = number(random),
         4 => disk.truncate(random.below(DISK_WORDS as u32) as usize),
+        5 => memory.cursor = number(random),
+        6 | 7 => memory.cursor = random.below(memory.blocks),
+        8 => memory.cursor = memory.blocks.saturating_sub(1),
         _ => {}
     }
     State { memory, disk, list: vec![UNWRITTEN; random.below(66) as usize] }

@@ -63,13 +63,13 @@ fn the_blocks_can_be_had_again_and_a_new_transaction_has_no_part_in_them() {
             assert_eq!(drop(&mut state.memory, 1), Ok(()));
         }
         state.start(3);
-        assert_eq!(state.allocate(3, 2), [32, 33]);
+        assert_eq!(state.allocate(3, 6), [36, 37, 38, 39, 32, 33]);
         state.free(3, 0);
         state.start(1);
         assert_eq!(state.begin_commit(1), 0, "nothing is left of what it had touched");
         state.commit(3);
-        assert_eq!(state.memory.sam, bitmap(!1, 0b0011));
-        assert_eq!(state.disk[2..4], [!1, 0b0011]);
+        assert_eq!(state.memory.sam, bitmap(!1, 0b1111_0011));
+        assert_eq!(state.disk[2..4], [!1, 0b1111_0011]);
     }
 }
 
@@ -92,16 +92,17 @@ fn an_extent_is_given_back_by_either() {
     let mut state = State::opened(100);
     state.start(2);
     assert_eq!(allocate_extent(&mut state.memory, 2, 40, 50, &mut state.list), Ok(50));
+    let expected = Memory { cursor: 90, ..State::opened(100).memory };
     let mut dropped = state.clone();
     assert_eq!(drop(&mut dropped.memory, 2), Ok(()));
-    assert_eq!(dropped.memory, State::opened(100).memory);
+    assert_eq!(dropped.memory, expected);
     state.precommit(2);
     assert_eq!(revoke(&mut state.memory, 2), Ok(()));
-    assert_eq!(state.memory, State::opened(100).memory);
+    assert_eq!(state.memory, expected);
 }
 
 #[test]
-fn every_transaction_rolled_back_leaves_the_volume_as_it_was() {
+fn every_transaction_rolled_back_leaves_the_volume_as_it_was_but_for_the_cursor() {
     let mut state = State::opened(100);
     state.start(0);
     state.allocate(0, 50);
@@ -118,7 +119,7 @@ fn every_transaction_rolled_back_leaves_the_volume_as_it_was() {
         assert_eq!(call(&mut state.memory, slot), Ok(()));
         assert!(state.memory.is_valid());
     }
-    assert_eq!(state.memory, before);
+    assert_eq!(state.memory, Memory { cursor: 86, ..before });
 }
 
 /// Drops the slot as an open one and revokes it as a precommitted one, on copies: for equal touches

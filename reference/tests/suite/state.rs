@@ -82,13 +82,16 @@ impl State {
         state
     }
 
-    /// Busy states whose memory isn't valid: that of zeros, and one with a bit of COM turned.
-    pub fn not_valid() -> [State; 2] {
+    /// Busy states whose memory isn't valid: that of zeros, one with a bit of COM turned, and one
+    /// with a cursor of m.
+    pub fn not_valid() -> [State; 3] {
         let mut zeros = State::busy();
         zeros.memory = Memory::ZEROS;
         let mut damaged = State::busy();
         damaged.memory.com.words[1] ^= 1;
-        [zeros, damaged]
+        let mut beyond = State::busy();
+        beyond.memory.cursor = 100;
+        [zeros, damaged, beyond]
     }
 
     pub fn start(&mut self, slot: u32) {

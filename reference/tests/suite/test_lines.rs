@@ -4,13 +4,16 @@ use reference::inspector::Inspector;
 use reference::test_line::{parse, TestLine};
 use reference::{Error, Memory, Pending, SlotState};
 
-const IN_FORM: [(&str, TestLine); 21] = [
+const IN_FORM: [(&str, TestLine); 24] = [
     ("disk 0 0", TestLine::Disk { index: 0, word: 0 }),
     ("disk 385 4294967295", TestLine::Disk { index: 385, word: u32::MAX }),
     ("disk 0000000007 0000000009", TestLine::Disk { index: 7, word: 9 }),
     ("disk 4294967295 1", TestLine::Disk { index: u32::MAX, word: 1 }),
     ("length 387", TestLine::Length { words: 387 }),
     ("blocks 4096", TestLine::Blocks { blocks: 4096 }),
+    ("cursor 0", TestLine::Cursor { block: 0 }),
+    ("cursor 4294967295", TestLine::Cursor { block: u32::MAX }),
+    ("cursor 0000004096", TestLine::Cursor { block: 4096 }),
     ("sam 127 1", TestLine::Sam { index: 127, word: 1 }),
     ("com 128 2", TestLine::Com { index: 128, word: 2 }),
     ("tam 7 8 9", TestLine::Tam { slot: 7, index: 8, word: 9 }),
@@ -31,7 +34,7 @@ const IN_FORM: [(&str, TestLine); 21] = [
     ("status", TestLine::Status),
 ];
 
-const NOT_IN_FORM: [&[u8]; 69] = [
+const NOT_IN_FORM: [&[u8]; 82] = [
     b"",
     b" ",
     b"show ",
@@ -95,6 +98,19 @@ const NOT_IN_FORM: [&[u8]; 69] = [
     b"disk 1,2",
     b"disk \xd9\xa1 2",
     b"length",
+    b"cursor",
+    b"cursor ",
+    b"cursor 1 ",
+    b" cursor 1",
+    b"cursor  1",
+    b"cursor 1 2",
+    b"Cursor 1",
+    b"cursors 1",
+    b"curso 1",
+    b"cursor=1",
+    b"cursor -1",
+    b"cursor 4294967296",
+    b"op=cursor seat=0 n=1",
     b"tam 1 2",
     b"state 1",
     b"pending 1 2 3",
@@ -152,6 +168,7 @@ fn lines_in_range_and_out_of_range() {
         ("disk 385 1", "disk 386 1"),
         ("length 400", "length 401"),
         ("blocks 4294967295", "disk 4294967295 1"),
+        ("cursor 4294967295", "cursor 4294967296"),
         ("sam 127 1", "sam 128 1"),
         ("com 127 1", "com 128 1"),
         ("tam 7 127 1", "tam 8 127 1"),
@@ -183,8 +200,8 @@ fn the_range_of_a_disk_word_is_the_disks_length() {
 
 #[test]
 fn what_test_lines_alter() {
-    let inspector = run("disk 3 30\nblocks 40\nsam 1 11\ncom 2 12\ntam 4 5 13\nlist 0");
-    let mut memory = Memory { blocks: 40, ..Memory::ZEROS };
+    let inspector = run("disk 3 30\nblocks 40\ncursor 41\nsam 1 11\ncom 2 12\ntam 4 5 13\nlist 0");
+    let mut memory = Memory { blocks: 40, cursor: 41, ..Memory::ZEROS };
     memory.sam.words[1] = 11;
     memory.com.words[2] = 12;
     memory.slots[4].tam.words[5] = 13;

@@ -54,12 +54,12 @@ fn a_block_freed_and_retaken_is_not_another_transactions() {
         }
         state.commit(1);
         state.start(4);
-        assert_eq!(state.allocate(4, 1), [0]);
+        assert_eq!(state.allocate(4, 5), [36, 37, 38, 39, 0]);
         state.commit(2);
         let roll_back = if is_precommitted { revoke } else { drop };
         assert_eq!(roll_back(&mut state.memory, 3), Ok(()));
         state.commit(4);
-        assert_eq!(state.memory.sam, bitmap(!2, 0b1111));
+        assert_eq!(state.memory.sam, bitmap(!2, 0b1111_1111));
         assert_eq!(state.memory.com, state.memory.sam);
     }
 }

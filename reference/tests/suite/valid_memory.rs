@@ -17,6 +17,8 @@ pub fn valid_memory(random: &mut Random, blocks: u32) -> Memory {
     }
     memory.slots.rotate_left(random.below(8) as usize);
     touch(random, &mut memory);
+    let any = random.below(blocks);
+    memory.cursor = random.choose(&[0, blocks - 1, any, any]);
     memory.pending = pending(random, &memory);
     assert!(memory.is_valid(), "{memory:?}");
     memory

@@ -8,9 +8,10 @@ fn bit(bitmap: &Bitmap, block: usize) -> bool {
     bitmap.words[block / 32] >> (block % 32) & 1 == 1
 }
 
-/// Document 01: "Memory is fit if", one block at a time.
+/// Document 01: "Memory is fit if", one block at a time, and document 02, job 6: "below m to be fit".
 fn is_valid_by_blocks(memory: &Memory) -> bool {
     (1..=4096).contains(&memory.blocks)
+        && (0..memory.blocks).contains(&memory.cursor)
         && (0..4096).all(|block| block_is_valid(memory, block))
         && pending_is_valid(memory)
 }
@@ -61,7 +62,7 @@ fn changed_by_blocks(memory: &Memory, tam: &Bitmap) -> u32 {
 fn damage(random: &mut Random, memory: &mut Memory) {
     let slot = random.below(8) as usize;
     let number = random.choose(&[0, 1, 2, 3, 5, 7, 8, 9, 129, 386, u32::MAX - 1, u32::MAX]);
-    match random.below(10) {
+    match random.below(11) {
         0 => flip(random, &mut memory.sam),
         1 => flip(random, &mut memory.com),
         2 => flip(random, &mut memory.slots[slot].tam),
@@ -71,6 +72,10 @@ fn damage(random: &mut Random, memory: &mut Memory) {
         6 => memory.slots[slot].state = SlotState::Open,
         7 => memory.pending = Pending::Recovery { done: random.below(3), due: number },
         8 => {
+            let last = memory.blocks.wrapping_sub(1);
+            memory.cursor = random.choose(&[last, last, memory.blocks, number]);
+        }
+        9 => {
             let slot = random.choose(&[slot as u32, number]);
             memory.pending = Pending::Commit { slot, done: random.below(6), due: number };
         }
@@ -189,7 +194,31 @@ fn a_pending_recovery_has_idle_slots_and_its_numbers() {
 }
 
 #[test]
+fn a_cursor_is_below_m_while_work_is_pending_too() {
+    let commit = Pending::Commit { slot: 1, done: 3, due: 8 };
+    let precommitted = precommitted();
+    let opened = Memory::opened(40, Bitmap::EMPTY, Pending::Nothing);
+    let recovery = Pending::Recovery { done: 1, due: 3 };
+    for (memory, pending) in [
+        (&opened, Pending::Nothing),
+        (&precommitted, Pending::Nothing),
+        (&precommitted, commit),
+        (&opened, recovery),
+    ] {
+        for (cursor, valid) in
+            [(0, true), (39, true), (40, false), (41, false), (4096, false), (u32::MAX, false)]
+        {
+            assert_pending(&Memory { cursor, ..memory.clone() }, pending, valid);
+        }
+    }
+    let full = Memory::opened(4096, Bitmap::EMPTY, Pending::Nothing);
+    assert!(Memory { cursor: 4095, ..full.clone() }.is_valid());
+    assert!(!Memory { cursor: 4096, ..full }.is_valid());
+}
+
+#[test]
 fn the_memory_of_zeros_is_not_valid() {
     assert!(!Memory::ZEROS.is_valid());
+    assert_eq!(Memory::ZEROS.cursor, 0);
     assert!(Memory { blocks: 1, ..Memory::ZEROS }.is_valid());
 }

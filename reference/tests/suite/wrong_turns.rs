@@ -11,7 +11,7 @@ use reference::line::{Line, Operation};
 use reference::{majority, Bitmap, Error, Pending, SlotState, LOG_LENGTH_POSITION, LOG_START};
 
 /// The faults found in 100 histories, each once.
-fn faults(step: Step) -> Vec<&'static str> {
+pub fn faults(step: Step) -> Vec<&'static str> {
     let mut faults: Vec<_> =
         (0..100).filter_map(|seed| fault_in_history(seed, 300, step)).collect();
     faults.sort_unstable();
@@ -20,7 +20,7 @@ fn faults(step: Step) -> Vec<&'static str> {
 }
 
 /// The same in histories with extent lines.
-fn faults_of_extents(step: ExtentStep) -> Vec<&'static str> {
+pub fn faults_of_extents(step: ExtentStep) -> Vec<&'static str> {
     let fault = |seed| fault_of_steps(history_with_extents(seed).take(300), Bench::call, step);
     let mut faults: Vec<_> = (0..100).filter_map(fault).collect();
     faults.sort_unstable();

@@ -1,19 +1,19 @@
 -- Allocate: its verdict, and what taking its blocks needs.
 use Prim.Native.Nat.{ℕ, _≤_}
 use native.Mathlib.Omega.{arith}
-use mathlib.Core.Path.{_≡_, _∙_}
+use mathlib.Core.Path.{_≡_, refl, _∙_}
 use mathlib.Core.List.{List}
 use lib.ListN.{length}
-use lib.Seq.{length-take-le}
-use Rattle.available.specs.Take.{CanTake, Takes, lowestBlocks}
+use Rattle.available.specs.Take.{CanTake, firstBlocks}
 use Rattle.model_types.specs.declared.memory.Slot.{Slot}
 use Rattle.model_types.specs.declared.memory.Memory.{Memory}
 use Rattle.model_types.specs.Memory.{slotAt}
 use Rattle.model.specs.Causes.{countOutOfRange, listShort, available, tooFewAvailable}
 use Rattle.model.specs.Calls.Precommit.{precommitError}
-use Rattle.model.specs.Calls.Allocate.{allocateError, lowest}
+use Rattle.model.specs.Calls.Allocate.{allocateError, met, firstMet}
 use Rattle.model_types.proofs.Laws.Shape.{Shaped}
-use Rattle.model.proofs.Laws.Valid.{ValidParts, slot-below}
+use Rattle.model.proofs.Laws.Valid.{ValidParts, valid-parts, slot-below}
+use Rattle.model.proofs.Laws.Taking.{met-length}
 use Rattle.model.proofs.Laws.Accepted.{AllocateAccepted}
 use Rattle.verdicts.specs.declared.verdict.Verdict.{Verdict}
 use Rattle.verdicts.specs.Verdicts.{verdict, thenCauses}
@@ -28,21 +28,21 @@ module _ (memory : Memory) (s count : ℕ) (list : List ℕ) where
   allocate-verdict e f = e ∙ rw f (then-causes _ _)
 
   -- its blocks are as many as counted, so at least one
-  pub some-lowest : AllocateAccepted memory s count list → 1 ≤ length (lowest memory count)
-  unfolding lowest
-  some-lowest g = omega (arith, g .some, length-take-le count (available memory) (g .enough))
+  pub some-met : AllocateAccepted memory s count list → 1 ≤ length (firstMet memory count)
+  some-met g = omega (arith, g .some, met-length memory count (valid-parts memory (g .ready .is-valid) .cursor-below) (g .enough))
 
 -- ---- blocks taken
 
 module _ (memory : Memory) (s count : ℕ) (list : List ℕ) (own : Slot) (read : own ≡ slotAt memory s) where
   -- enough blocks are available, and the list has room for them
   pub can-take : Shaped memory → ValidParts memory → count ≤ length (available memory) → count ≤ length list
-      → CanTake (memory .blocks) count (memory .sam .words) (memory .com .words) (own .tam .words) list
+      → CanTake (memory .blocks) (memory .cursor) count (memory .sam .words) (memory .com .words) (own .tam .words) list
   unfolding available
   can-take shape parts enough room =
       rw read
       (record {
         volume = parts .few-blocks;
+        inside = parts .cursor-below;
         isSam = shape .sam;
         isCom = shape .«com»;
         isTam = shape .tam s;
@@ -53,8 +53,7 @@ module _ (memory : Memory) (s count : ℕ) (list : List ℕ) (own : Slot) (read 
       })
 
 -- what was taken, as the definitions name it
-pub took-lowest : (memory : Memory) (count : ℕ) (tam₀ list «com» tam after : List ℕ)
-    → Takes (memory .blocks) count (lowestBlocks (memory .blocks) count (memory .sam .words) (memory .com .words)) (memory .com .words) tam₀ list «com» tam after
-    → Takes (memory .blocks) count (lowest memory count) (memory .com .words) tam₀ list «com» tam after
-unfolding lowest available
-took-lowest memory count tam₀ list «com» tam after t = t
+pub first-blocks : (memory : Memory) (count : ℕ)
+    → firstBlocks (memory .blocks) (memory .cursor) count (memory .sam .words) (memory .com .words) ≡ firstMet memory count
+unfolding firstMet met
+first-blocks memory count = refl

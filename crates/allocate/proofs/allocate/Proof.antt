@@ -9,10 +9,11 @@ use Rattle.bitmap.specs.declared.Bitmap.{Bitmap}
 use Rattle.model_types.specs.declared.error.Error.{Error}
 use Rattle.model_types.specs.declared.answer.GrantAnswer.{GrantAnswer}
 use Rattle.model_types.specs.declared.memory.Slot.{Slot}
+use Rattle.model_types.specs.declared.memory.Memory.{Memory}
 use Rattle.model_types.specs.Answers.{granted}
-use Rattle.model_types.specs.Memory.{withCom, withSlots}
+use Rattle.model_types.specs.Memory.{withCursor, withCom, withSlots}
 use Rattle.model.specs.Calls.Precommit.{precommitError}
-use Rattle.model.specs.Calls.Allocate.{allocateError, lowest, taking, allocateAnswer, allocateMemory, allocateList}
+use Rattle.model.specs.Calls.Allocate.{allocateError, firstMet, taking, allocateAnswer, allocateMemory, allocateList}
 use Rattle.model_types.proofs.Laws.Shape.{Shaped, shaped}
 use Rattle.model.proofs.Laws.Valid.{valid-parts}
 use Rattle.model.proofs.Laws.Accepted.{AllocateAccepted, precommit-accepted, allocate-accepted}
@@ -20,7 +21,7 @@ use Rattle.verdicts.specs.Verdicts.{verdict}
 use Rattle.verdicts.proofs.Laws.Verdicts.{error-of, accepted-none, accepted-leaves, refused-leaves, first-answered, none-answered}
 use Rattle.verdicts.proofs.Laws.Ready.{index-is, own-slot, owner-read, open-verdict}
 use Rattle.available.proofs.Laws.Took.{took, first-listed}
-use Rattle.allocate.proofs.Laws.Allocate.{allocate-verdict, some-lowest, can-take, took-lowest}
+use Rattle.allocate.proofs.Laws.Allocate.{allocate-verdict, some-met, can-take, first-blocks}
 use borrow.Author.Needs.{needs}
 use Rattle.allocate.proofs.allocate.Statement.{statement}
 use Rattle.allocate.proofs.allocate.Tie as tie
@@ -99,8 +100,8 @@ grant-requires c κs = search needs
 is-accepted-requires : tie.Need-is-accepted-requires
 is-accepted-requires c κs = search needs
 
-take-lowest-requires : tie.Need-take-lowest-requires
-take-lowest-requires c κs =
+take-met-requires : tie.Need-take-met-requires
+take-met-requires c κs =
     let accepted = c .before .before .before .before .before in
     let t = told accepted in
     let after-open = opened (accepted .before) in
@@ -118,7 +119,7 @@ array-set-from-slots c = search needs
 slice-read-t44 : tie.Need-slice-read-t44
 slice-read-t44 c =
     let t = told (c .before .before .before .before .before .before .before .before .before) in
-    omega (arith, t .some, t .room, c .before .before .before .take-lowest .kept .1 .1 .1 .0)
+    omega (arith, t .some, t .room, c .before .before .before .take-met .kept .1 .1 .1 .0)
 
 same-length : tie.Need-same-length
 same-length c =
@@ -132,29 +133,32 @@ returns c =
     let shape = shape-at (entered (opened tested)) in
     let looked = opened tested .before .before .slot-index .ensures in
     let error = allocateError (a .memory) (a .slot) (a .count) (a .list .now) in
-    let new = taking (a .memory) (a .slot) (lowest (a .memory) (a .count)) in
-    let list = lowest (a .memory) (a .count) ++ drop (a .count) (a .list .now) in
+    let new = taking (a .memory) (a .slot) (firstMet (a .memory) (a .count)) in
+    let list = firstMet (a .memory) (a .count) ++ drop (a .count) (a .list .now) in
+    let left : Bitmap → List Slot → Memory = λ «com» slots. withCursor (withSlots (withCom (a .memory) «com») slots) (c .if1 .first) in
     let is = verdict-is tested in
     let test = tested .is-accepted .ensures in
     ⊎-elim
     (λ w.
     let t = told (record { before = tested; if1 = w .0 }) in
     let read = own-slot (a .memory) _ (a .slot) shape looked (t .ready .below) in
-    let taken = took-lowest (a .memory) (a .count) _ (a .list .now) _ _ _ (w .6 .ensures) in (
-      w .13
-          ∙ ap GrantAnswer.First (first-listed (a .count) (lowest (a .memory) (a .count)) (a .list .now) _ (some-lowest (a .memory) (a .slot) (a .count) (a .list .now) t) (taken .listed))
+    let taken = rw first-blocks at (w .6 .ensures .takes) in (
+      w .14
+          ∙ ap GrantAnswer.First (first-listed (a .count) (firstMet (a .memory) (a .count)) (a .list .now) _ (some-met (a .memory) (a .slot) (a .count) (a .list .now) t) (taken .listed))
           ∙ first-answered error _ (accepted-none error is test (w .0 .taken)),
       (
-        ap₂ (λ («com» : Bitmap) (slots : List Slot). withSlots (withCom (a .memory) «com») slots) (w .11) (w .12 ∙ ap₂ (set (a .memory .slots)) (index-is (a .slot) looked (t .ready .below)) refl)
-            ∙ took (a .memory) (a .slot) (a .count) _ read (lowest (a .memory) (a .count)) (a .list .now) _ _ _ taken
+        ap₂ left (w .12) (w .13 ∙ ap₂ (set (a .memory .slots)) (index-is (a .slot) looked (t .ready .below)) refl)
+            ∙ took (a .memory) (a .slot) (a .count) (c .if1 .first) _ read (firstMet (a .memory) (a .count)) (a .list .now) _ _ _ taken
+            (w .11 ∙ rw first-blocks at (w .6 .ensures .moves))
             ∙ accepted-leaves error new (a .memory) is test (w .0 .taken),
         w .10 ∙ taken .listed ∙ accepted-leaves error list (a .list .now) is test (w .0 .taken),
       ),
     ))
     (λ w. (
-      w .4 ∙ tested .before .grant .ensures ∙ ap (λ (e : Option Error). granted e 0) (error-of error is) ∙ none-answered error 0 _ is test (w .0 .left),
+      w .5 ∙ tested .before .grant .ensures ∙ ap (λ (e : Option Error). granted e 0) (error-of error is) ∙ none-answered error 0 _ is test (w .0 .left),
       (
-        ap₂ (λ («com» : Bitmap) (slots : List Slot). withSlots (withCom (a .memory) «com») slots) (w .2) (w .3)
+        ap₂ left (w .3) (w .4)
+            ∙ ap (withCursor (a .memory)) (w .2)
             ∙ refused-leaves error new (a .memory) is test (w .0 .left),
         w .1 ∙ refused-leaves error list (a .list .now) is test (w .0 .left),
       ),
@@ -176,7 +180,7 @@ allocate-spec =
     enough-requires
     grant-requires
     is-accepted-requires
-    take-lowest-requires
+    take-met-requires
     mul-slots
     array-set-from-slots
     slice-read-t44

@@ -1,5 +1,5 @@
 -- Allocate extent: its verdict, what the search and taking the blocks need, and the first block.
-use Prim.Native.Nat.{ℕ, _+_, _≤_}
+use Prim.Native.Nat.{ℕ, suc, _+_, _-_, _≤_}
 use native.Mathlib.Nat.{add-zero}
 use native.Mathlib.Omega.{arith}
 use mathlib.Core.Path.{_≡_, refl, sym, ap, _∙_}
@@ -10,7 +10,9 @@ use lib.Dec.{eqb}
 use borrow.Author.Tests.{eq-eqb, ne-eqb, eqb-true, eqb-false}
 use Rattle.bitmap.specs.Blocks.{isAvailable}
 use Rattle.bitmap.specs.Extents.{nearest, starts}
+use Rattle.bitmap.specs.Round.{wrapped, afterLast}
 use Rattle.bitmap.proofs.Laws.Extents.{nearest-none, member-some}
+use Rattle.bitmap.proofs.Laws.Round.{after-last-at}
 use Rattle.model_types.specs.declared.error.Error.the-variants.{NoExtent}
 use Rattle.model_types.specs.declared.memory.Slot.{Slot}
 use Rattle.model_types.specs.declared.memory.Memory.{Memory}
@@ -23,7 +25,7 @@ use Rattle.model_types.proofs.Laws.Shape.{Shaped}
 use Rattle.model.proofs.Laws.First.{first-none}
 use Rattle.model.proofs.Laws.Valid.{ValidParts, valid-parts, slot-below}
 use Rattle.model.proofs.Laws.Accepted.{count-some, count-few, block-below, precommit-accepted, AllocateExtentAccepted}
-use Rattle.model.proofs.Laws.Extents.{nearestStart, nearest-extent, nearest-at}
+use Rattle.model.proofs.Laws.Extents.{nearestStart, nearest-extent, nearest-at, nearest-length}
 use Rattle.verdicts.specs.declared.verdict.Verdict.{Verdict}
 use Rattle.verdicts.specs.Verdicts.{verdict, isAccepted, unlessHolds, thenCauses}
 use Rattle.verdicts.proofs.Laws.Verdicts.{one-more, then-causes, then-passed, tested-last, accepted-none}
@@ -98,12 +100,21 @@ module _ (memory : Memory) (s count near : ℕ) (list : List ℕ) where
     start-first = sym (nearest-at memory count near 0 (a .some) ∙ add-zero (nearestStart memory count near))
 
     module _ {start : ℕ} (is : start ≡ nearestStart memory count near) (parts : ValidParts memory) where
-      within : start + count ≤ memory .blocks
+      pub within : start + count ≤ memory .blocks
       within = rw is (nearest-extent memory count near (a .found) .within)
 
       -- bitmaps and list have room for them
       pub can-take : CanTake start count list
       can-take = record { within = omega (arith, within, parts .few-blocks); room = a .room }
+
+      -- the cursor moves behind them
+      pub moved-behind : wrapped (memory .blocks) (start + count) ≡ afterLast (memory .blocks) (memory .cursor) (nearestExtent memory count near)
+      moved-behind =
+          let last : suc (getD (nearestExtent memory count near) (count - 1) 0) ≡ start + count =
+          omega (arith, nearest-at memory count near (count - 1) (omega (arith, a .some)), is, a .some) in
+          sym
+          (after-last-at (memory .blocks) (memory .cursor) (nearestExtent memory count near) (count - 1) (omega (arith, nearest-length memory count near, a .some))
+          ∙ ap (wrapped (memory .blocks)) last)
 
       lies : (own : Slot) → own ≡ slotAt memory s → Shaped memory → LiesIn (memory .blocks) start count (memory .com .words) (own .tam .words)
       lies own read shape =

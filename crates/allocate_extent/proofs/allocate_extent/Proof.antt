@@ -1,6 +1,7 @@
 -- The causes of an open slot and of the request decide, and whether there is an extent; accepted, the bitmaps and the list are
 -- the definition's.
 use Prim.Native.Nat.{ℕ}
+use native.Mathlib.Omega.{arith}
 use mathlib.Core.Path.{_≡_, refl, sym, ap, ap₂, _∙_}
 use mathlib.Core.Logic.{⊎-elim}
 use mathlib.Core.Bool.{true}
@@ -13,8 +14,9 @@ use Rattle.model_types.specs.declared.error.Error.{Error}
 use Rattle.model_types.specs.declared.error.Error.the-variants.{NoExtent}
 use Rattle.model_types.specs.declared.answer.GrantAnswer.{GrantAnswer}
 use Rattle.model_types.specs.declared.memory.Slot.{Slot}
+use Rattle.model_types.specs.declared.memory.Memory.{Memory}
 use Rattle.model_types.specs.Answers.{granted}
-use Rattle.model_types.specs.Memory.{withCom, withSlots}
+use Rattle.model_types.specs.Memory.{withCursor, withCom, withSlots}
 use Rattle.model.specs.Calls.Allocate.{taking}
 use Rattle.model.specs.Calls.Precommit.{precommitError}
 use Rattle.model.specs.Calls.AllocateExtent.{allocateExtentError, nearestExtent, allocateExtentAnswer, allocateExtentMemory, allocateExtentList}
@@ -26,7 +28,7 @@ use Rattle.verdicts.specs.Verdicts.{verdict, isAccepted}
 use Rattle.verdicts.proofs.Laws.Verdicts.{unless-passed, error-of, accepted-none, accepted-leaves, refused-leaves, first-answered, none-answered}
 use Rattle.verdicts.proofs.Laws.Ready.{index-is, own-slot, owner-read, open-verdict}
 use Rattle.available.proofs.Laws.Took.{took}
-use Rattle.allocate_extent.proofs.Laws.AllocateExtent.{can-search, extent-verdict, start-is, none-found, start-first, can-take, took-nearest}
+use Rattle.allocate_extent.proofs.Laws.AllocateExtent.{can-search, extent-verdict, start-is, none-found, start-first, within, moved-behind, can-take, took-nearest}
 use borrow.Author.Needs.{needs}
 use Rattle.allocate_extent.proofs.allocate_extent.Statement.{statement}
 use Rattle.allocate_extent.proofs.allocate_extent.Tie as tie
@@ -150,8 +152,19 @@ mul-slots c = search needs
 array-set-from-slots : tie.Need-array-set-from-slots
 array-set-from-slots c = search needs
 
+add-wrapped : tie.Need-add-wrapped
+add-wrapped c =
+    let accepted = c .before .before .before .before .before .before in
+    let t = told accepted in
+    let b = entered (opened (requested (tested (accepted .before)))) in
+    let parts = valid-parts _ (t .ready .is-valid) in
+    omega (arith, within (b .args .memory) (b .args .slot) (b .args .count) (b .args .near) (b .args .list .now) t (accepted-start accepted) parts, parts .few-blocks)
+
+wrapped-requires : tie.Need-wrapped-requires
+wrapped-requires c κs = search needs
+
 same-length : tie.Need-same-length
-same-length c = ⊎-elim (λ w. ap length (w .7) ∙ w .4 .kept .1 .1 .0) (λ w. ap length (w .1)) (c .if1 .came)
+same-length c = ⊎-elim (λ w. ap length (w .8) ∙ w .4 .kept .1 .1 .0) (λ w. ap length (w .1)) (c .if1 .came)
 
 returns : tie.Need-returns
 unfolding allocateExtentAnswer allocateExtentMemory allocateExtentList
@@ -164,6 +177,7 @@ returns c =
     let blocks = nearestExtent (a .memory) (a .count) (a .near) in
     let new = taking (a .memory) (a .slot) blocks in
     let list = blocks ++ drop (a .count) (a .list .now) in
+    let left : Bitmap → List Slot → Memory = λ «com» slots. withCursor (withSlots (withCom (a .memory) «com») slots) (c .if1 .first) in
     let is = verdict-is accepted in
     let test = accepted .is-accepted .ensures in
     ⊎-elim
@@ -173,20 +187,22 @@ returns c =
     let shape = shape-at (entered after-open) in
     let read = own-slot (a .memory) _ (a .slot) shape looked (t .ready .below) in
     let taken = took-nearest (a .memory) (a .slot) (a .count) (a .near) (a .list .now) t (accepted-start at) (valid-parts _ (t .ready .is-valid)) _ read shape _ _ _ (w .4 .ensures) in (
-      w .10
+      w .12
           ∙ ap GrantAnswer.First (accepted-start at ∙ start-first (a .memory) (a .slot) (a .count) (a .near) (a .list .now) t)
           ∙ first-answered error _ (accepted-none error is test (w .0 .taken)),
       (
-        ap₂ (λ («com» : Bitmap) (slots : List Slot). withSlots (withCom (a .memory) «com») slots) (w .8) (w .9 ∙ ap₂ (set (a .memory .slots)) (index-is (a .slot) looked (t .ready .below)) refl)
-            ∙ took (a .memory) (a .slot) (a .count) _ read blocks (a .list .now) _ _ _ taken
+        ap₂ left (w .10) (w .11 ∙ ap₂ (set (a .memory .slots)) (index-is (a .slot) looked (t .ready .below)) refl)
+            ∙ took (a .memory) (a .slot) (a .count) (c .if1 .first) _ read blocks (a .list .now) _ _ _ taken
+            (w .9 ∙ w .7 .ensures ∙ moved-behind (a .memory) (a .slot) (a .count) (a .near) (a .list .now) t (accepted-start at) (valid-parts _ (t .ready .is-valid)))
             ∙ accepted-leaves error new (a .memory) is test (w .0 .taken),
-        w .7 ∙ taken .listed ∙ accepted-leaves error list (a .list .now) is test (w .0 .taken),
+        w .8 ∙ taken .listed ∙ accepted-leaves error list (a .list .now) is test (w .0 .taken),
       ),
     ))
     (λ w. (
-      w .4 ∙ accepted .before .grant .ensures ∙ ap (λ (e : Option Error). granted e 0) (error-of error is) ∙ none-answered error 0 _ is test (w .0 .left),
+      w .5 ∙ accepted .before .grant .ensures ∙ ap (λ (e : Option Error). granted e 0) (error-of error is) ∙ none-answered error 0 _ is test (w .0 .left),
       (
-        ap₂ (λ («com» : Bitmap) (slots : List Slot). withSlots (withCom (a .memory) «com») slots) (w .2) (w .3)
+        ap₂ left (w .3) (w .4)
+            ∙ ap (withCursor (a .memory)) (w .2)
             ∙ refused-leaves error new (a .memory) is test (w .0 .left),
         w .1 ∙ refused-leaves error list (a .list .now) is test (w .0 .left),
       ),
@@ -213,5 +229,7 @@ allocate-extent-spec =
     take-extent-requires
     mul-slots
     array-set-from-slots
+    add-wrapped
+    wrapped-requires
     same-length
     returns)

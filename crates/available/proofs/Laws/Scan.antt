@@ -1,18 +1,17 @@
--- Available blocks one after another: the next available block, and what follows it.
-use Prim.Native.Nat.{ℕ, zero, suc, _+_, _-_, _*_, _/_, _%_, _^_, _≤_, _<_}
+-- Available blocks one after another: the next available block, and the first one met going round.
+use Prim.Native.Nat.{ℕ, suc, _+_, _*_, _/_, _%_, _^_, _≤_, _<_}
 use native.Mathlib.Omega.{arith}
-use mathlib.Core.Path.{_≡_, sym, ap, _∙_}
-use mathlib.Core.Logic.{⊎-elim}
-use mathlib.Core.Bool.{Bool, true, false, cond}
-use mathlib.Core.List.{List, _∷_}
-use lib.ListN.{length, getD}
+use mathlib.Core.Path.{_≡_, refl, sym, ap, _∙_}
+use mathlib.Core.List.{List, [], _∷_, _++_}
+use lib.ListN.{getD}
 use lib.Count.{trailingZeros}
 use Rattle.bitmap.specs.Bits.{IsBitmap}
-use Rattle.bitmap.specs.Blocks.{scan, from, isAvailable}
-use Rattle.bitmap.proofs.Laws.Bits.{below-or-from}
+use Rattle.bitmap.specs.Blocks.{from, isAvailable}
+use Rattle.bitmap.specs.Round.{roundFrom}
 use Rattle.bitmap.proofs.Laws.Blocks.{from-end}
+use Rattle.bitmap.proofs.Laws.Round.{first-found, round-low}
 use Rattle.bitmap.proofs.Laws.Search.{WordAt, next-word, next-found}
-use Rattle.available.specs.Available.{availableWord, availableFrom, nextAvailable}
+use Rattle.available.specs.Available.{availableWord, availableFrom, nextAvailable, nextMet}
 use Rattle.available.proofs.Laws.Available.{isAvailableIn, availableIn-past, availableFrom-in, available-bits, availableWord-lt}
 
 -- ---- the next available block
@@ -47,34 +46,23 @@ module _ (m : ℕ) {sam «com» : List ℕ} (p : ℕ) (hs : IsBitmap sam) (hc : 
       let found = next-found available-at some in
       (found .0, availableFrom-in m sam «com» p ∙ found .1 ∙ ap (λ (l : List ℕ). q ∷ l) (sym (availableFrom-in m sam «com» (suc q))))
 
--- ---- what follows
+-- ---- the first block met
 
--- a scan goes on behind the first block that it finds
-scan-rest : (test : ℕ → Bool) (p n x : ℕ) (rest : List ℕ) → scan test p n ≡ x ∷ rest → rest ≡ scan test (suc x) (p + n - suc x)
-unfolding scan
-scan-rest test p zero x rest e = absurd (omega (arith, ap length e))
-scan-rest test p (suc n) x rest e = go (test p) e (scan-rest test (suc p) n x rest)
+-- one found before the wrap is it
+pub met-ahead : (m : ℕ) (sam «com» : List ℕ) (p : ℕ) → nextAvailable m sam «com» p < m → nextAvailable m sam «com» p ≡ nextMet m sam «com» p
+unfolding nextAvailable nextMet roundFrom
+met-ahead m sam «com» p = go (availableFrom m sam «com» p)
   where
-    go : (t : Bool) → cond t (p ∷ scan test (suc p) n) (scan test (suc p) n) ≡ x ∷ rest
-        → (scan test (suc p) n ≡ x ∷ rest → rest ≡ scan test (suc x) (suc p + n - suc x))
-        → rest ≡ scan test (suc x) (p + suc n - suc x)
-    go true k ih =
-        let first : p ≡ x = cc in
-        let tail : scan test (suc p) n ≡ rest = cc in
-        let left : p + suc n - suc p ≡ n = omega arith in
-        rw (← first, left) (sym tail)
-    go false k ih =
-        let left : suc p + n - suc x ≡ p + suc n - suc x = omega arith in
-        rw left at (ih k)
+    go : (l : List ℕ) → getD l 0 m < m → getD l 0 m ≡ getD (l ++ from (isAvailable sam «com») p 0) 0 m
+    go [] h = absurd (omega arith)
+    go (x ∷ l) h = refl
 
-pub from-rest : (test : ℕ → Bool) (m p x : ℕ) (rest : List ℕ) → from test m p ≡ x ∷ rest → rest ≡ from test m (suc x)
-unfolding from
-from-rest test m p x rest e = ⊎-elim within past (below-or-from p m)
+-- where none is, it is the lowest one
+pub met-behind : (m : ℕ) (sam «com» : List ℕ) (p : ℕ) → p ≤ m → m ≤ nextAvailable m sam «com» p
+    → nextAvailable m sam «com» 0 ≡ nextMet m sam «com» p
+unfolding nextAvailable nextMet
+met-behind m sam «com» p inside none = sym (ap (λ (l : List ℕ). getD l 0 m) (round-low (isAvailable sam «com») m p inside (go (availableFrom m sam «com» p) refl none)))
   where
-    within : p < m → rest ≡ scan test (suc x) (m - suc x)
-    within h =
-        let all : p + (m - p) - suc x ≡ m - suc x = omega arith in
-        rw all at (scan-rest test p (m - p) x rest e)
-
-    past : m ≤ p → rest ≡ scan test (suc x) (m - suc x)
-    past h = absurd (omega (arith, ap length (sym (from-end test m p h) ∙ e)))
+    go : (l : List ℕ) → availableFrom m sam «com» p ≡ l → m ≤ getD l 0 m → availableFrom m sam «com» p ≡ []
+    go [] e h = e
+    go (x ∷ l) e h = absurd (omega (arith, first-found (isAvailable sam «com») m p x l e .1))

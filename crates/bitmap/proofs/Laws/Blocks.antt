@@ -1,13 +1,13 @@
 -- Lists of blocks: what is in them, and how a scan goes on from one block to the next.
 use Prim.Native.Nat.{ℕ, zero, suc, _+_, _-_, _≤_, _<_, suc-le-suc}
-use native.Mathlib.Nat.{not-suc-le-zero, le-refl, le-step, eq-or-lt-of-le, le-of-suc-le-suc, sub-eq-zero-of-le}
+use native.Mathlib.Nat.{not-suc-le-zero, zero-add, add-zero, add-suc, suc-add, le-refl, le-step, eq-or-lt-of-le, le-of-suc-le-suc, sub-eq-zero-of-le}
 use native.Mathlib.Decide.{le-ind}
 use native.Mathlib.Omega.{arith}
 use mathlib.Core.Path.{_≡_, refl, sym, ap, _∙_}
 use mathlib.Core.Logic.{_⊎_, inl, inr, ⊎-elim}
 use mathlib.Core.Bool.{Bool, true, false, not, cond, _||_, and-eq-true-iff, or-assoc, or-true, false≢true}
 use mathlib.Core.List.{List, [], _∷_, _++_}
-use lib.ListN.{length, take}
+use lib.ListN.{length, getD, take}
 use lib.Dec.{eqb}
 use borrow.Author.Tests.{eqb-true, eq-eqb, not-true}
 use Rattle.bitmap.specs.Bits.{bit}
@@ -41,6 +41,14 @@ unfolding member
 member-append b [] ys = refl
 member-append b (x ∷ xs) ys = ap (λ (t : Bool). eqb b x || t) (member-append b xs ys) ∙ sym (or-assoc (eqb b x) (member b xs) (member b ys))
 
+-- so it is in one of them
+pub append-member : (b : ℕ) (xs ys : List ℕ) → member b (xs ++ ys) ≡ true → (member b xs ≡ true) ⊎ (member b ys ≡ true)
+append-member b xs ys h = go (member b xs) refl (sym (member-append b xs ys) ∙ h)
+  where
+    go : (t : Bool) → member b xs ≡ t → (t || member b ys) ≡ true → (member b xs ≡ true) ⊎ (member b ys ≡ true)
+    go true e k = inl e
+    go false e k = inr k
+
 -- a block of a list is its first or in its rest
 pub member-cons : (b x : ℕ) (xs : List ℕ) → member b (x ∷ xs) ≡ true → (b ≡ x) ⊎ (member b xs ≡ true)
 unfolding member
@@ -50,10 +58,21 @@ member-cons b x xs h = go (eqb b x) refl h
     go true e k = inl (eqb-true b x e)
     go false e k = inr k
 
+-- a list's first block is in it
+pub member-first : (b x : ℕ) (xs : List ℕ) → b ≡ x → member b (x ∷ xs) ≡ true
+unfolding member
+member-first b x xs e = rw (eq-eqb b x e)
+
 -- a list's rest has no more than the list
 pub member-rest : (b x : ℕ) (xs : List ℕ) → member b xs ≡ true → member b (x ∷ xs) ≡ true
 unfolding member
 member-rest b x xs h = rw (h, or-true)
+
+-- a list has the block at each of its places
+pub getD-member : (xs : List ℕ) (i : ℕ) → i < length xs → member (getD xs i 0) xs ≡ true
+getD-member [] i h = absurd (not-suc-le-zero h)
+getD-member (x ∷ xs) zero h = member-first x x xs refl
+getD-member (x ∷ xs) (suc i) h = member-rest (getD xs i 0) x xs (getD-member xs i (le-of-suc-le-suc h))
 
 -- a list's start has no more than the list
 pub member-take : (n b : ℕ) (xs : List ℕ) → member b (take n xs) ≡ true → member b xs ≡ true
@@ -89,6 +108,23 @@ unfolding from
 member-from-true test m p b h =
     let f = member-scan test p (m - p) b h in
     (f .0, omega (arith, f .0, f .1), f .2)
+
+-- a scan finds each block at which the test holds
+member-scan-true : (test : ℕ → Bool) (p n b : ℕ) → p ≤ b → b < p + n → test b ≡ true → member b (scan test p n) ≡ true
+unfolding scan
+member-scan-true test p zero b l h e = absurd (omega arith)
+member-scan-true test p (suc n) b l h e = go (test p) refl (eq-or-lt-of-le l) (λ q. member-scan-true test (suc p) n b q (omega arith) e)
+  where
+    go : (t : Bool) → test p ≡ t → (p ≡ b) ⊎ (p < b) → (p < b → member b (scan test (suc p) n) ≡ true)
+        → member b (cond t (p ∷ scan test (suc p) n) (scan test (suc p) n)) ≡ true
+    go true f (inl q) ih = member-first b p (scan test (suc p) n) (sym q)
+    go false f (inl q) ih = absurd (false≢true (sym f ∙ ap test q ∙ e))
+    go true f (inr q) ih = member-rest b p (scan test (suc p) n) (ih q)
+    go false f (inr q) ih = ih q
+
+pub member-from : (test : ℕ → Bool) (m p b : ℕ) → p ≤ b → b < m → test b ≡ true → member b (from test m p) ≡ true
+unfolding from
+member-from test m p b l h e = member-scan-true test p (m - p) b l (omega arith) e
 
 -- an available block is below m and is available
 pub available-below : (m : ℕ) (sam «com» : List ℕ) (b : ℕ) → member b (availableBlocks m sam «com») ≡ true → (b < m) × (isAvailable sam «com» b ≡ true)
@@ -129,6 +165,36 @@ from-skip test m p q l none =
     le-ind (λ (k : ℕ). k ≤ q → from test m p ≡ from test m k) (λ _. refl)
     (λ k h ih u. ih (omega arith) ∙ from-next test m k (none k h u)) q l (le-refl q)
 
+-- a scan goes on behind the first block that it finds
+scan-rest : (test : ℕ → Bool) (p n x : ℕ) (rest : List ℕ) → scan test p n ≡ x ∷ rest → rest ≡ scan test (suc x) (p + n - suc x)
+unfolding scan
+scan-rest test p zero x rest e = absurd (omega (arith, ap length e))
+scan-rest test p (suc n) x rest e = go (test p) e (scan-rest test (suc p) n x rest)
+  where
+    go : (t : Bool) → cond t (p ∷ scan test (suc p) n) (scan test (suc p) n) ≡ x ∷ rest
+        → (scan test (suc p) n ≡ x ∷ rest → rest ≡ scan test (suc x) (suc p + n - suc x))
+        → rest ≡ scan test (suc x) (p + suc n - suc x)
+    go true k ih =
+        let first : p ≡ x = cc in
+        let tail : scan test (suc p) n ≡ rest = cc in
+        let left : p + suc n - suc p ≡ n = omega arith in
+        rw (← first, left) (sym tail)
+    go false k ih =
+        let left : suc p + n - suc x ≡ p + suc n - suc x = omega arith in
+        rw left at (ih k)
+
+pub from-rest : (test : ℕ → Bool) (m p x : ℕ) (rest : List ℕ) → from test m p ≡ x ∷ rest → rest ≡ from test m (suc x)
+unfolding from
+from-rest test m p x rest e = ⊎-elim within past (below-or-from p m)
+  where
+    within : p < m → rest ≡ scan test (suc x) (m - suc x)
+    within h =
+        let all : p + (m - p) - suc x ≡ m - suc x = omega arith in
+        rw all at (scan-rest test p (m - p) x rest e)
+
+    past : m ≤ p → rest ≡ scan test (suc x) (m - suc x)
+    past h = absurd (omega (arith, ap length (sym (from-end test m p h) ∙ e)))
+
 -- tests that agree find the same
 scan-same : (test other : ℕ → Bool) (p n : ℕ) → ((b : ℕ) → p ≤ b → b < p + n → test b ≡ other b) → scan test p n ≡ scan other p n
 unfolding scan
@@ -153,3 +219,24 @@ scan-length test p (suc n) = go (test p) (scan-length test (suc p) n)
 pub from-length : (test : ℕ → Bool) (m p : ℕ) → length (from test m p) ≤ m - p
 unfolding from
 from-length test m p = scan-length test p (m - p)
+
+-- ---- a scan in two
+
+-- of n + k blocks, those of the n and then those of the k after them
+pub scan-append : (test : ℕ → Bool) (p n k : ℕ) → scan test p (n + k) ≡ scan test p n ++ scan test (p + n) k
+unfolding scan
+scan-append test p zero k = rw (zero-add k, add-zero p)
+scan-append test p (suc n) k = rw (suc-add n k, add-suc p n, ← suc-add p n) (go (test p) (scan-append test (suc p) n k))
+  where
+    go : (t : Bool) → scan test (suc p) (n + k) ≡ scan test (suc p) n ++ scan test (suc p + n) k
+        → cond t (p ∷ scan test (suc p) (n + k)) (scan test (suc p) (n + k)) ≡ cond t (p ∷ scan test (suc p) n) (scan test (suc p) n) ++ scan test (suc p + n) k
+    go true e = ap (λ (l : List ℕ). p ∷ l) e
+    go false e = e
+
+-- the blocks from p up to m are those up to q and those from q on
+pub from-append : (test : ℕ → Bool) (m p q : ℕ) → p ≤ q → q ≤ m → from test m p ≡ from test q p ++ from test m q
+unfolding from
+from-append test m p q l h =
+    let all : m - p ≡ (q - p) + (m - q) = omega arith in
+    let there : p + (q - p) ≡ q = omega arith in
+    rw all (scan-append test p (q - p) (m - q) ∙ ap (λ (b : ℕ). scan test p (q - p) ++ scan test b (m - q)) there)

@@ -1,16 +1,16 @@
 -- How many blocks a scan finds, and the blocks of a volume by their bits in SAM and COM.
 use Prim.Native.Nat.{ℕ, zero, suc, _+_, _-_, _≤_, _<_}
-use native.Mathlib.Nat.{zero-add, add-zero, add-suc, suc-add, sub-zero, le-refl}
+use native.Mathlib.Nat.{zero-add, sub-zero, le-refl}
 use native.Mathlib.Omega.{arith}
 use mathlib.Core.Path.{_≡_, refl, ap, _∙_}
 use mathlib.Core.Bool.{Bool, true, false, not, cond, _&&_, _||_}
 use mathlib.Core.List.{List, [], _∷_}
-use lib.ListN.{length}
+use lib.ListN.{length, length-append}
 use lib.Dec.{eqb}
 use borrow.Author.Tests.{eqb-true, ne-eqb}
 use Rattle.bitmap.specs.Bits.{bit}
 use Rattle.bitmap.specs.Blocks.{scan, from, allocatedBlocks, isAvailable, availableBlocks, isAllocating, allocatingBlocks, isFreeing, freeingBlocks, isHeld, heldBlocks, member}
-use Rattle.bitmap.proofs.Laws.Blocks.{from-skip, from-end}
+use Rattle.bitmap.proofs.Laws.Blocks.{from-skip, from-end, scan-append}
 
 -- ---- a scan in parts
 
@@ -30,11 +30,7 @@ count-suc test p n = go (test p) (scan test (suc p) n)
 
 -- of n + k blocks, those of the n and those of the k after them
 count-add : (test : ℕ → Bool) (p n k : ℕ) → length (scan test p (n + k)) ≡ length (scan test p n) + length (scan test (p + n) k)
-unfolding scan
-count-add test p zero k = rw (zero-add k, add-zero p, zero-add)
-count-add test p (suc n) k =
-    rw (suc-add n k, add-suc p n, ← suc-add p n)
-    (omega (arith, count-suc test p (n + k), count-suc test p n, count-add test (suc p) n k))
+count-add test p n k = ap length (scan-append test p n k) ∙ length-append (scan test p n) (scan test (p + n) k)
 
 -- a test that holds everywhere finds all
 count-all : (p n : ℕ) → length (scan (λ b. true) p n) ≡ n

@@ -1,6 +1,6 @@
 -- Extents: what a start tells, how longer extents follow from shorter ones, and that the nearest of a list is known by its laws.
 use Prim.Native.Nat.{ℕ, zero, suc, _+_, _-_, _≤_, _<_, min, zero-le}
-use native.Mathlib.Nat.{not-suc-le-zero, le-refl, le-of-suc-le-suc, eq-or-lt-of-le, add-zero, le-antisymm}
+use native.Mathlib.Nat.{not-suc-le-zero, le-refl, le-of-suc-le-suc, add-zero, le-antisymm}
 use native.Mathlib.Omega.{arith}
 use mathlib.Core.Path.{_≡_, refl, sym, ap, _∙_}
 use mathlib.Core.Logic.{_⊎_, inl, inr, ⊎-elim}
@@ -8,11 +8,11 @@ use mathlib.Core.Bool.{Bool, true, false, cond, _&&_, and-eq-true-iff, false≢t
 use mathlib.Core.List.{List, [], _∷_}
 use lib.ListN.{length, getD}
 use lib.Dec.{leb, ltb, eqb}
-use borrow.Author.Tests.{leb-true, le-leb, ltb-true, ltb-false, eqb-true, eqb-false, eq-eqb, lt-ltb}
-use Rattle.bitmap.specs.Blocks.{scan, from, member, allBelow}
+use borrow.Author.Tests.{leb-true, le-leb, ltb-true, ltb-false, eqb-true, eqb-false, lt-ltb}
+use Rattle.bitmap.specs.Blocks.{from, member, allBelow}
 use Rattle.bitmap.specs.Extents.{adjoining, isStart, starts, distance, nearer, nearestOf, nearest}
 use Rattle.bitmap.proofs.Laws.Bits.{below-or-from}
-use Rattle.bitmap.proofs.Laws.Blocks.{allBelow-at, allBelow-all, member-cons, member-rest, member-from-true}
+use Rattle.bitmap.proofs.Laws.Blocks.{allBelow-at, allBelow-all, member-cons, member-first, member-rest, member-from-true, member-from}
 
 -- ---- the blocks of an extent
 
@@ -102,33 +102,11 @@ start-one test m b =
 
 -- ---- the list of starts
 
--- a list's first block is in it
-pub member-first : (b x : ℕ) (xs : List ℕ) → b ≡ x → member b (x ∷ xs) ≡ true
-unfolding member
-member-first b x xs e = rw (eq-eqb b x e)
-
 -- whatever has a block has some
 pub member-some : (b : ℕ) (blocks : List ℕ) → member b blocks ≡ true → 1 ≤ length blocks
 unfolding member
 member-some b [] h = absurd (false≢true h)
 member-some b (x ∷ blocks) h = omega arith
-
--- a scan finds each block at which the test holds
-member-scan-true : (test : ℕ → Bool) (p n b : ℕ) → p ≤ b → b < p + n → test b ≡ true → member b (scan test p n) ≡ true
-unfolding scan
-member-scan-true test p zero b l h e = absurd (omega arith)
-member-scan-true test p (suc n) b l h e = go (test p) refl (eq-or-lt-of-le l) (λ q. member-scan-true test (suc p) n b q (omega arith) e)
-  where
-    go : (t : Bool) → test p ≡ t → (p ≡ b) ⊎ (p < b) → (p < b → member b (scan test (suc p) n) ≡ true)
-        → member b (cond t (p ∷ scan test (suc p) n) (scan test (suc p) n)) ≡ true
-    go true f (inl q) ih = member-first b p (scan test (suc p) n) (sym q)
-    go false f (inl q) ih = absurd (false≢true (sym f ∙ ap test q ∙ e))
-    go true f (inr q) ih = member-rest b p (scan test (suc p) n) (ih q)
-    go false f (inr q) ih = ih q
-
-pub member-from : (test : ℕ → Bool) (m p b : ℕ) → p ≤ b → b < m → test b ≡ true → member b (from test m p) ≡ true
-unfolding from
-member-from test m p b l h e = member-scan-true test p (m - p) b l (omega arith) e
 
 pub starts-are : (test : ℕ → Bool) (m n b : ℕ) → member b (starts test m n) ≡ true → isStart test m n b ≡ true
 unfolding starts

@@ -10,7 +10,7 @@ use Rattle.model_types.specs.declared.error.Error.{Error}
 use Rattle.model_types.specs.declared.memory.Memory.{Memory}
 use Rattle.model.specs.First.{unlessRefused}
 use Rattle.model.specs.Calls.Start.{startError, started, startMemory}
-use Rattle.model.specs.Calls.Allocate.{allocateError, lowest, taking, allocateMemory}
+use Rattle.model.specs.Calls.Allocate.{allocateError, firstMet, taking, allocateMemory}
 use Rattle.model.specs.Calls.AllocateExtent.{allocateExtentError, nearestExtent, allocateExtentMemory}
 use Rattle.model.specs.Calls.Deallocate.{deallocateError, freeing, deallocateMemory}
 use Rattle.model.specs.Calls.Precommit.{precommitError, precommitting, precommitMemory}
@@ -91,7 +91,7 @@ module _ (memory : Memory) (disk : List ℕ) (eight : length (memory .slots) ≡
   pub allocate-consistent : (s count : ℕ) (list : List ℕ) → Consistent (allocateMemory memory s count list) disk
   unfolding allocateMemory
   allocate-consistent s count list =
-      grant-consistent s count (lowest memory count) (allocateError memory s count list) (allocate-grants memory s count list)
+      grant-consistent s count (firstMet memory count) (allocateError memory s count list) (allocate-grants memory s count list)
 
   pub allocate-extent-consistent : (s count near : ℕ) (list : List ℕ) → Consistent (allocateExtentMemory memory s count near list) disk
   unfolding allocateExtentMemory

@@ -16,10 +16,9 @@ use Rattle.bitmap.specs.Blocks.{from, member}
 use Rattle.bitmap.specs.Extents.{distance, nearest}
 use Rattle.bitmap.proofs.Laws.Word.{isSet-zero, isSet-small, isSet-cut, isSet-up, isSet-below}
 use Rattle.bitmap.proofs.Laws.Bits.{below-or-from, bit-word}
-use Rattle.bitmap.proofs.Laws.Blocks.{member-cons, member-from-true}
-use Rattle.bitmap.proofs.Laws.Extents.{member-first, member-some, member-from, nearest-is, nearest-none}
+use Rattle.bitmap.proofs.Laws.Blocks.{member-cons, member-from-true, member-first, member-from, from-rest}
+use Rattle.bitmap.proofs.Laws.Extents.{member-some, nearest-is, nearest-none}
 use Rattle.bitmap.proofs.Laws.Search.{WordAt}
-use Rattle.available.proofs.Laws.Scan.{from-rest}
 use Rattle.extents.specs.Starts.{AreWords, NoneFrom}
 use Rattle.extents.specs.Nearest.{nextStart, endBefore}
 

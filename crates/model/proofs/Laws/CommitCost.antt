@@ -7,7 +7,6 @@ use mathlib.Core.Bool.{Bool, true, false, cond}
 use mathlib.Core.Option.{Option}
 use mathlib.Core.List.{List}
 use lib.ListN.{length, getD}
-use lib.Seq.{length-take-le}
 use lib.Dec.{eqb}
 use borrow.Author.Tests.{eqb-false, eq-eqb, ne-eqb}
 use Rattle.bitmap.specs.Bits.{IsBitmap}
@@ -18,8 +17,7 @@ use Rattle.model_types.specs.Memory.{slotAt, withState, isActive, isPrecommitte
 use Rattle.model.specs.First.{unlessRefused}
 use Rattle.model.specs.Commit.{changedOf, commitDue}
 use Rattle.model.specs.Valid.{touched}
-use Rattle.model.specs.Causes.{available}
-use Rattle.model.specs.Calls.Allocate.{allocateError, lowest, taking, allocateAnswer, allocateMemory}
+use Rattle.model.specs.Calls.Allocate.{allocateError, firstMet, taking, allocateAnswer, allocateMemory}
 use Rattle.model.specs.Calls.Precommit.{precommitting, precommitAnswer, precommitMemory}
 use Rattle.model.specs.Calls.Committing.{commitAnswer}
 use Rattle.model.specs.Calls.Status.{counts}
@@ -33,7 +31,7 @@ use Rattle.model.proofs.Laws.Accepted.{PrecommitAccepted, CommitAccepte
 use Rattle.model.proofs.Laws.FourCounts.{available-can-be-had}
 use Rattle.model.proofs.Laws.Pending.{commit-due}
 use Rattle.model.proofs.Laws.Untouched.{precommitted-valid}
-use Rattle.model.proofs.Laws.Taking.{grant-valid, taking-state, lowest-available}
+use Rattle.model.proofs.Laws.Taking.{grant-valid, taking-state, met-available, met-length}
 use Rattle.model.proofs.Laws.TouchedBlocks.{changed-touched, changed-words}
 use Rattle.model.proofs.Laws.TouchedBy.{touchedBy, active-touched, taking-touches, precommitting-touches}
 
@@ -135,22 +133,22 @@ module _ (memory : Memory) (s count : ℕ) (is : IsBitmap (memory .sam .words)) 
         }
 
     -- the allocate is granted
-    allocates : allocateAnswer memory s count list ≡ GrantAnswer.First (getD (lowest memory count) 0 0)
+    allocates : allocateAnswer memory s count list ≡ GrantAnswer.First (getD (firstMet memory count) 0 0)
     unfolding counts
     allocates = available-can-be-had memory (a .ready .is-valid) .granted s count list eligible (a .enough)
 
     abbrev taken : Memory
-    taken = taking memory s (lowest memory count)
+    taken = taking memory s (firstMet memory count)
 
     own-after : slotAt taken s .state ≡ slotAt memory s .state
-    own-after = taking-state memory s (lowest memory count) (active-there memory s (a .active))
+    own-after = taking-state memory s (firstMet memory count) (active-there memory s (a .active))
 
     -- after it the slot can still precommit
     still-open : PrecommitAccepted taken s
     unfolding taking
     still-open =
         let there = active-there memory s (a .active) in
-        let valid-after = grant-valid memory s (lowest memory count) (lowest-available memory count) parts (a .ready .nothing-pending) there (a .active) in
+        let valid-after = grant-valid memory s (firstMet memory count) (met-available memory count (parts .cursor-below)) parts (a .ready .nothing-pending) there (a .active) in
         record {
           ready = record { is-valid = parts-valid taken valid-after; nothing-pending = a .ready .nothing-pending; below = a .ready .below };
           active = ap isActive own-after ∙ a .active;
@@ -159,15 +157,15 @@ module _ (memory : Memory) (s count : ℕ) (is : IsBitmap (memory .sam .words)) 
 
     -- and has touched no more than the count besides
     within-taken : CommitsWithin taken s (commitCost memory s count)
-    unfolding commitCost taking lowest
+    unfolding commitCost taking
     within-taken =
         commits-within taken s (length (touchedBlocks memory s) + count) still-open is
         (omega (
           arith,
-          taking-touches memory s s (active-there memory s (a .active)) parts (lowest memory count) .few,
-          ap {B = ℕ} (λ (t : Bool). cond t (length (lowest memory count)) 0) (eq-eqb s s refl),
+          taking-touches memory s s (active-there memory s (a .active)) parts (firstMet memory count) .few,
+          ap {B = ℕ} (λ (t : Bool). cond t (length (firstMet memory count)) 0) (eq-eqb s s refl),
           active-touched memory s (a .active),
-          length-take-le count (available memory) (a .enough),
+          met-length memory count (parts .cursor-below) (a .enough),
         ))
 
     within-allocated : CommitsWithin (allocateMemory memory s count list) s (commitCost memory s count)

@@ -152,6 +152,7 @@ module _ (memory : Memory) (s : ℕ) (parts : ValidParts memory) (h : s < length
       record {
         some-blocks = parts .some-blocks;
         few-blocks = parts .few-blocks;
+        cursor-below = parts .cursor-below;
         sam-below = committed-below memory s;
         com-below = parts .com-below;
         slots-valid =

@@ -31,6 +31,7 @@ rolls-back memory s a =
       idle = slot-same changed s idleSlot (active-there memory s (a .active));
       com-bits = rolled-back-bits memory (valid-parts memory (a .ready .is-valid)) s;
       same-blocks = refl;
+      same-cursor = refl;
       same-sam = refl;
       other-slots = slot-other changed s idleSlot;
       same-pending = refl;

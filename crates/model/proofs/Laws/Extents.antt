@@ -27,11 +27,21 @@ use Rattle.model.proofs.Laws.FourCounts.{eligible-open, eligible-room}
 use Rattle.model.proofs.Laws.Taking.{AllAvailable, available-of}
 
 -- whether a block is available, and the start nearest to a named one
-abbrev availableIn : Memory → ℕ → Bool
+abbrev pub availableIn : Memory → ℕ → Bool
 availableIn memory = isAvailable (memory .sam .words) (memory .com .words)
 
 abbrev pub nearestStart : Memory → ℕ → ℕ → ℕ
 nearestStart memory count near = nearest near (memory .blocks) (extentStarts memory count)
+
+-- behind the blocks listed the places are as they were
+pub later-places : (blocks list : List ℕ) (count : ℕ) → length blocks ≡ count → (i : ℕ) → count ≤ i → getD (blocks ++ drop count list) i 0 ≡ getD list i 0
+later-places blocks list count size i h =
+    let e : length blocks + (i - count) ≡ i = omega arith in
+    let f : count + (i - count) ≡ i = omega arith in
+    sym (ap (λ (j : ℕ). getD (blocks ++ drop count list) j 0) e)
+    ∙ getD-append-add blocks (drop count list) (i - count) 0
+    ∙ getD-drop count list (i - count) 0
+    ∙ ap (λ (j : ℕ). getD list j 0) f
 
 module _ (memory : Memory) (count : ℕ) where
   -- ---- the starts
@@ -96,13 +106,7 @@ module _ (memory : Memory) (count : ℕ) where
         record {
           same-length = length-append blocks (drop count list) ∙ omega (arith, nearest-length, length-drop count list);
           rising = λ i h. List·getD-append blocks (drop count list) 0 i (omega (arith, nearest-length)) ∙ nearest-at i h;
-          later = λ i h.
-              let e : length blocks + (i - count) ≡ i = omega (arith, nearest-length) in
-              let f : count + (i - count) ≡ i = omega arith in
-              sym (ap (λ (j : ℕ). getD (blocks ++ drop count list) j 0) e)
-              ∙ getD-append-add blocks (drop count list) (i - count) 0
-              ∙ getD-drop count list (i - count) 0
-              ∙ ap (λ (j : ℕ). getD list j 0) f;
+          later = later-places blocks list count nearest-length;
         }
 
 -- ---- a grant

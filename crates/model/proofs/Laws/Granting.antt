@@ -5,14 +5,13 @@ use mathlib.Core.Bool.{true}
 use mathlib.Core.Option.{none}
 use mathlib.Core.List.{List}
 use lib.ListN.{length}
-use lib.Seq.{length-take-le}
 use Rattle.model.specs.Types.{Memory}
 use Rattle.model_types.specs.Memory.{slotAt, isActive}
-use Rattle.model.specs.Causes.{available}
-use Rattle.model.specs.Calls.Allocate.{allocateError, lowest}
+use Rattle.model.specs.Calls.Allocate.{allocateError, firstMet}
 use Rattle.model.specs.Calls.AllocateExtent.{allocateExtentError, nearestExtent}
 use Rattle.model.proofs.Laws.Accepted.{Ready, allocate-accepted, allocate-extent-accepted}
-use Rattle.model.proofs.Laws.Taking.{AllAvailable, lowest-available}
+use Rattle.model.proofs.Laws.Taking.{AllAvailable, met-available, met-length}
+use Rattle.model.proofs.Laws.Valid.{valid-parts}
 use Rattle.model.proofs.Laws.Extents.{nearest-length, nearest-extent-available}
 
 pub record Grants (memory : Memory) (s count : ℕ) (blocks : List ℕ) : Type 0 where
@@ -22,16 +21,11 @@ pub record Grants (memory : Memory) (s count : ℕ) (blocks : List ℕ) : Type 0
   pub size : length blocks ≡ count
 
 pub allocate-grants : (memory : Memory) (s count : ℕ) (list : List ℕ) → allocateError memory s count list ≡ none
-    → Grants memory s count (lowest memory count)
-unfolding lowest
+    → Grants memory s count (firstMet memory count)
 allocate-grants memory s count list e =
     let a = allocate-accepted memory s count list e in
-    record {
-      ready = a .ready;
-      active = a .active;
-      available = lowest-available memory count;
-      size = length-take-le count (available memory) (a .enough);
-    }
+    let below = valid-parts memory (a .ready .is-valid) .cursor-below in
+    record { ready = a .ready; active = a .active; available = met-available memory count below; size = met-length memory count below (a .enough) }
 
 pub allocate-extent-grants : (memory : Memory) (s count near : ℕ) (list : List ℕ) → allocateExtentError memory s count near list ≡ none
     → Grants memory s count (nearestExtent memory count near)

@@ -46,6 +46,7 @@ module _ (disk : List ℕ) (opens : openError disk ≡ none) where
       record {
         some-blocks = parts .some-blocks;
         few-blocks = parts .few-blocks;
+        cursor-below = parts .some-blocks;
         sam-below = durable-noBits disk opens;
         com-below = durable-noBits disk opens;
         slots-valid = all-idle (diskBlocks disk) slotCount;

@@ -1,27 +1,30 @@
 -- Allocate and deallocate turn blocks at which COM is SAM: COM and the slot's bitmap become SAM's complement there, so just
 -- this slot has touched them, and the memory after it is valid.
-use Prim.Native.Nat.{ℕ, _+_, _<_}
+use Prim.Native.Nat.{ℕ, _+_, _≤_, _<_}
 use native.Mathlib.Omega.{arith}
 use mathlib.Core.Path.{_≡_, refl, sym, ap, ap₂, _∙_}
 use mathlib.Core.Bool.{Bool, true, false, not, cond, xor, _&&_, _||_, false≢true}
 use mathlib.Core.List.{List}
 use lib.ListN.{length}
+use lib.Seq.{length-take-le}
 use lib.Dec.{eqb}
 use borrow.Author.Tests.{eqb-true}
 use Rattle.bitmap.specs.Bits.{bit}
-use Rattle.bitmap.specs.Blocks.{isAvailable, member}
+use Rattle.bitmap.specs.Blocks.{isAvailable, availableBlocks, member}
+use Rattle.bitmap.specs.Round.{afterLast}
 use Rattle.bitmap.proofs.Laws.Bits.{bit-below, noBits-bitmapOf}
-use Rattle.bitmap.proofs.Laws.Blocks.{member-take, available-below, available-free, available-unused}
+use Rattle.bitmap.proofs.Laws.Blocks.{member-take, available-free, available-unused}
+use Rattle.bitmap.proofs.Laws.Round.{member-round, round-length, after-last-lt}
 use Rattle.model.specs.Types.{Nothing, Slot, Memory}
 use Rattle.model_types.specs.Memory.{slotAt, withTam, isActive, samBit, comBit, tamBit, withCom, withSlot, volumeBitmap}
 use Rattle.model.specs.Valid.{touched}
 use Rattle.model.specs.Causes.{available}
-use Rattle.model.specs.Calls.Allocate.{lowest, taking}
+use Rattle.model.specs.Calls.Allocate.{met, firstMet, taking}
 use Rattle.model.specs.Calls.Deallocate.{freeing}
 use Rattle.model.proofs.Laws.Fields.{slot-same}
 use Rattle.model.proofs.Laws.Valid.{ValidParts, touchesBlock}
 use Rattle.model.proofs.Laws.Commit.{touched-differs}
-use Rattle.model.proofs.Laws.Touches.{one, xor-self, differs, active-valid, touching-valid}
+use Rattle.model.proofs.Laws.Touches.{one, xor-self, differs, active-valid, touching-valid, cursor-valid}
 
 not-differs : (t : Bool) → xor (not t) t ≡ true
 unfolding xor
@@ -104,6 +107,14 @@ pub record Available (memory : Memory) (b : ℕ) : Type 0 where
 abbrev pub AllAvailable : Memory → List ℕ → Type 0
 AllAvailable memory blocks = (b : ℕ) → member b blocks ≡ true → Available memory b
 
+-- the memory with these blocks at 1 in COM and in the slot's TAM, the cursor where it was
+abbrev marked : Memory → ℕ → List ℕ → Memory
+marked memory s blocks =
+    withSlot
+    (withCom memory (volumeBitmap memory (λ b. member b blocks || comBit memory b)))
+    s
+    (withTam (slotAt memory s) (volumeBitmap memory (λ b. member b blocks || tamBit (slotAt memory s) b)))
+
 -- a grant of available blocks, in whatever order and however often they are listed, leaves a valid memory
 pub grant-valid : (memory : Memory) (s : ℕ) (blocks : List ℕ)
     → AllAvailable memory blocks
@@ -114,14 +125,19 @@ pub grant-valid : (memory : Memory) (s : ℕ) (blocks : List ℕ)
     → ValidParts (taking memory s blocks)
 unfolding taking
 grant-valid memory s blocks all parts nothing h active =
-    turned-valid memory s parts nothing h active (λ b. member b blocks) _ _
-    (λ b inside e. all b e .unused ∙ sym (all b e .free))
-    (λ b. set-there b (member b blocks) refl (comBit memory b))
-    (λ b. set-there b (member b blocks) refl (tamBit (slotAt memory s) b))
+    cursor-valid _ (afterLast (memory .blocks) (memory .cursor) blocks) turned nothing
+    (after-last-lt (memory .blocks) (memory .cursor) blocks (parts .cursor-below) (λ b e. all b e .below))
   where
     set-there : (b : ℕ) (t : Bool) → member b blocks ≡ t → (old : Bool) → (t || old) ≡ cond t (not (samBit memory b)) old
     set-there b true e old = sym (ap not (all b e .free))
     set-there b false e old = refl
+
+    turned : ValidParts (marked memory s blocks)
+    turned =
+        turned-valid memory s parts nothing h active (λ b. member b blocks) _ _
+        (λ b inside e. all b e .unused ∙ sym (all b e .free))
+        (λ b. set-there b (member b blocks) refl (comBit memory b))
+        (λ b. set-there b (member b blocks) refl (tamBit (slotAt memory s) b))
 
 -- and its slot in the state it was in
 pub taking-state : (memory : Memory) (s : ℕ) (blocks : List ℕ) → s < length (memory .slots) → slotAt (taking memory s blocks) s .state ≡ slotAt memory s .state
@@ -141,12 +157,21 @@ available-of memory b inside e =
       unused = available-unused (memory .sam .words) (memory .com .words) b e;
     }
 
--- the n lowest available blocks are such a list
-pub lowest-available : (memory : Memory) (count : ℕ) → AllAvailable memory (lowest memory count)
-unfolding lowest available
-lowest-available memory count b e =
-    let p = available-below (memory .blocks) (memory .sam .words) (memory .com .words) b (member-take count b _ e) in
+-- the first n blocks met are such a list
+pub met-available : (memory : Memory) (count : ℕ) → memory .cursor < memory .blocks → AllAvailable memory (firstMet memory count)
+unfolding firstMet met
+met-available memory count below b e =
+    let test = isAvailable (memory .sam .words) (memory .com .words) in
+    let p = member-round test (memory .blocks) (memory .cursor) (omega arith) b (member-take count b _ e) in
     available-of memory b (p .0) (p .1)
+
+-- as many as are asked, where so many are available
+pub met-length : (memory : Memory) (count : ℕ) → memory .cursor < memory .blocks → count ≤ length (available memory)
+    → length (firstMet memory count) ≡ count
+unfolding firstMet met available availableBlocks
+met-length memory count below enough =
+    let test = isAvailable (memory .sam .words) (memory .com .words) in
+    length-take-le count _ (omega (arith, enough, round-length test (memory .blocks) (memory .cursor) (omega arith)))
 
 -- ---- deallocate
 

@@ -13,7 +13,7 @@ use Rattle.bitmap.proofs.Laws.Bits.{bit-below}
 use Rattle.bitmap.proofs.Laws.Blocks.{from-same}
 use Rattle.bitmap.proofs.Laws.Count.{count-more}
 use Rattle.model.specs.Types.{Bitmap, Slot, Pending, Memory}
-use Rattle.model_types.specs.Memory.{slotAt, idleSlot, isActive, samBit, tamBit, withCom, withSlot, withPending}
+use Rattle.model_types.specs.Memory.{slotAt, idleSlot, isActive, samBit, tamBit, withCursor, withCom, withSlot, withPending}
 use Rattle.model.specs.Valid.{touched}
 use Rattle.model.specs.Commit.{committed}
 use Rattle.model.specs.Calls.Start.{started}
@@ -101,6 +101,11 @@ module _ (memory : Memory) (s : ℕ) (slot : Slot) («com» : Bitmap) where
         go true e = subst (λ (x : ℕ). Touches memory changed x (length blocks)) (eqb-true s t e) (own-more blocks few)
         go false e = other-kept t (λ q. eqb-false s t e (sym q))
 
+-- whichever block is to be searched first
+cursor-touches : (memory other : Memory) (s more cursor : ℕ) → Touches memory other s more → Touches memory (withCursor other cursor) s more
+unfolding touchedBy touched
+cursor-touches memory other s more cursor t = record { few = t .few; volume = t .volume }
+
 -- no more is no more, for one slot or another
 none-more : {memory other : Memory} {s : ℕ} (t : Bool) → Touches memory other s (cond t 0 0) → Touches memory other s 0
 none-more true k = k
@@ -127,9 +132,10 @@ module _ (memory : Memory) (s t : ℕ) (there : s < length (memory .slots)) wher
     pub taking-touches : (blocks : List ℕ) → Touches memory (taking memory s blocks) t (cond (eqb s t) (length blocks) 0)
     unfolding taking touched xor
     taking-touches blocks =
-        either-slot memory s _ _ there t blocks (λ b h.
+        cursor-touches memory _ t _ _
+        (either-slot memory s _ _ there t blocks (λ b h.
         rw (bit-below (memory .blocks) (λ x. member x blocks || tamBit (slotAt memory s) x) b (parts .few-blocks) h)
-        (go (member b blocks) (isActive (slotAt memory s .state)) (tamBit (slotAt memory s) b) (samBit memory b)))
+        (go (member b blocks) (isActive (slotAt memory s .state)) (tamBit (slotAt memory s) b) (samBit memory b))))
       where
         go : (m active tam sam : Bool) → cond (active && xor (m || tam) sam) 1 0 ≤ cond m 1 0 + cond (active && xor tam sam) 1 0
         go m false tam sam = omega arith

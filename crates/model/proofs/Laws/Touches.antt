@@ -9,7 +9,7 @@ use borrow.Author.Tests.{eq-eqb}
 use Rattle.bitmap.specs.Bits.{bit, noBitsFrom}
 use Rattle.bitmap.proofs.Laws.Blocks.{allBelow-all}
 use Rattle.model.specs.Types.{Bitmap, Slot, Pending, Nothing, Memory}
-use Rattle.model_types.specs.Memory.{slotAt, idleSlot, isActive, samBit, comBit, emptyBitmap, withCom, withSlot, withPending}
+use Rattle.model_types.specs.Memory.{slotAt, idleSlot, isActive, samBit, comBit, emptyBitmap, withCursor, withCom, withSlot, withPending}
 use Rattle.model.specs.Valid.{touched, sameWords, allSlots, slotValid, touches, touchesAgree, pendingValid}
 use Rattle.model.proofs.Laws.Fields.{slots-length, slot-same, slot-other}
 use Rattle.model.proofs.Laws.Writes.{and-both, and-first, and-second}
@@ -130,6 +130,7 @@ touching-valid memory s slot «com» parts nothing h new below own =
     record {
       some-blocks = parts .some-blocks;
       few-blocks = parts .few-blocks;
+      cursor-below = parts .cursor-below;
       sam-below = parts .sam-below;
       com-below = below;
       slots-valid = allSlots-set (slotValid (memory .blocks)) (memory .slots) s slot new (parts .slots-valid);
@@ -146,22 +147,38 @@ touching-valid memory s slot «com» parts nothing h new below own =
     next : Memory
     next = withSlot (withCom memory «com») s slot
 
--- the same memory with other valid work pending is valid
-pub pending-valid : (memory : Memory) (pending : Pending)
-    → ValidParts memory → pendingValid (withPending memory pending) pending ≡ true → ValidParts (withPending memory pending)
+-- the same memory to be searched from another of its blocks on, and with other valid work pending, is valid
+searched-valid : (memory : Memory) (cursor : ℕ) (pending : Pending)
+    → ValidParts memory
+    → cursor < memory .blocks
+    → pendingValid (withPending (withCursor memory cursor) pending) pending ≡ true
+    → ValidParts (withPending (withCursor memory cursor) pending)
 unfolding touchesAgree touched
-pending-valid memory pending parts valid =
+searched-valid memory cursor pending parts below valid =
     record {
       some-blocks = parts .some-blocks;
       few-blocks = parts .few-blocks;
+      cursor-below = below;
       sam-below = parts .sam-below;
       com-below = parts .com-below;
       slots-valid = parts .slots-valid;
       touches-agree =
           allBelow-all (memory .blocks) _
           (λ b h.
-          eq-eqb (touches (withPending memory pending) b (memory .slots)) (one (differs memory b))
-          (touches-same memory (withPending memory pending) b (memory .slots) (memory .slots) refl (λ t. refl)
+          eq-eqb (touches (withPending (withCursor memory cursor) pending) b (memory .slots)) (one (differs memory b))
+          (touches-same memory (withPending (withCursor memory cursor) pending) b (memory .slots) (memory .slots) refl (λ t. refl)
           ∙ touches-at memory b (parts .touches-agree) h));
       pending-valid = valid;
     }
+
+-- to be searched from another block on, where nothing is pending
+pub cursor-valid : (memory : Memory) (cursor : ℕ) → ValidParts memory → memory .pending ≡ Nothing → cursor < memory .blocks
+    → ValidParts (withCursor memory cursor)
+unfolding pendingValid
+cursor-valid memory cursor parts nothing below =
+    searched-valid memory cursor (memory .pending) parts below (ap (pendingValid (withCursor memory cursor)) nothing)
+
+-- with other work pending
+pub pending-valid : (memory : Memory) (pending : Pending)
+    → ValidParts memory → pendingValid (withPending memory pending) pending ≡ true → ValidParts (withPending memory pending)
+pending-valid memory pending parts valid = searched-valid memory (memory .cursor) pending parts (parts .cursor-below) valid

@@ -6,8 +6,8 @@ use mathlib.Core.Bool.{Bool, true, cond, xor, _&&_, false≢true}
 use mathlib.Core.List.{List, [], _∷_}
 use lib.ListN.{getD, replicate, getD-replicate}
 use lib.Pow.{pow-pos}
-use lib.Dec.{eqb}
-use borrow.Author.Tests.{eqb-true}
+use lib.Dec.{ltb, eqb}
+use borrow.Author.Tests.{eqb-true, ltb-true, lt-ltb}
 use Rattle.bitmap.specs.Sizes.{maxBlocks, bitmapWords, blocksInRange}
 use Rattle.bitmap.specs.Bits.{noBitsFrom}
 use Rattle.bitmap.proofs.Laws.Bits.{noBits-all}
@@ -21,11 +21,16 @@ use Rattle.model.proofs.Laws.DiskParts.{blocks-inRange, inRange-low, in
 pub record ValidParts (memory : Memory) : Type 0 where
   pub some-blocks : 1 ≤ memory .blocks
   pub few-blocks : memory .blocks ≤ maxBlocks
+  pub cursor-below : memory .cursor < memory .blocks
   pub sam-below : noBitsFrom (memory .blocks) (memory .sam .words) ≡ true
   pub com-below : noBitsFrom (memory .blocks) (memory .com .words) ≡ true
   pub slots-valid : allSlots (slotValid (memory .blocks)) (memory .slots) ≡ true
   pub touches-agree : touchesAgree memory ≡ true
   pub pending-valid : pendingValid memory (memory .pending) ≡ true
+
+-- the first two: the block count and the cursor
+abbrev head : Memory → Bool
+head memory = blocksInRange (memory .blocks) && ltb (memory .cursor) (memory .blocks)
 
 pub valid-parts : (memory : Memory) → valid memory ≡ true → ValidParts memory
 unfolding valid
@@ -35,19 +40,21 @@ valid-parts memory e =
     let e3 = and-first _ (allSlots (slotValid (memory .blocks)) (memory .slots)) e4 in
     let e2 = and-first _ (noBitsFrom (memory .blocks) (memory .com .words)) e3 in
     let e1 = and-first _ (noBitsFrom (memory .blocks) (memory .sam .words)) e2 in
+    let e0 = and-first _ (ltb (memory .cursor) (memory .blocks)) e1 in
     record {
-      some-blocks = inRange-low (memory .blocks) e1;
-      few-blocks = inRange-high (memory .blocks) e1;
-      sam-below = and-second (blocksInRange (memory .blocks)) _ e2;
-      com-below = and-second (blocksInRange (memory .blocks) && noBitsFrom (memory .blocks) (memory .sam .words)) _ e3;
+      some-blocks = inRange-low (memory .blocks) e0;
+      few-blocks = inRange-high (memory .blocks) e0;
+      cursor-below = ltb-true (memory .cursor) (memory .blocks) (and-second (blocksInRange (memory .blocks)) _ e1);
+      sam-below = and-second (head memory) _ e2;
+      com-below = and-second (head memory && noBitsFrom (memory .blocks) (memory .sam .words)) _ e3;
       slots-valid =
           and-second
-          (blocksInRange (memory .blocks) && noBitsFrom (memory .blocks) (memory .sam .words) && noBitsFrom (memory .blocks) (memory .com .words))
+          (head memory && noBitsFrom (memory .blocks) (memory .sam .words) && noBitsFrom (memory .blocks) (memory .com .words))
           _
           e4;
       touches-agree =
           and-second
-          (blocksInRange (memory .blocks)
+          (head memory
           && noBitsFrom (memory .blocks) (memory .sam .words)
           && noBitsFrom (memory .blocks) (memory .com .words)
           && allSlots (slotValid (memory .blocks)) (memory .slots))
@@ -55,7 +62,7 @@ valid-parts memory e =
           e5;
       pending-valid =
           and-second
-          (blocksInRange (memory .blocks)
+          (head memory
           && noBitsFrom (memory .blocks) (memory .sam .words)
           && noBitsFrom (memory .blocks) (memory .com .words)
           && allSlots (slotValid (memory .blocks)) (memory .slots)
@@ -136,7 +143,12 @@ parts-valid memory parts =
     and-both
     (and-both
     (and-both
-    (and-both (and-both (blocks-inRange (memory .blocks) (parts .some-blocks) (parts .few-blocks)) (parts .sam-below)) (parts .com-below))
+    (and-both (and-both head-valid (parts .sam-below)) (parts .com-below))
     (parts .slots-valid))
     (parts .touches-agree))
     (parts .pending-valid)
+  where
+    head-valid : head memory ≡ true
+    head-valid =
+        and-both (blocks-inRange (memory .blocks) (parts .some-blocks) (parts .few-blocks))
+        (lt-ltb (memory .cursor) (memory .blocks) (parts .cursor-below))

@@ -1,6 +1,6 @@
 -- Allocate extent. Document 02, job 4: "n adjoining grantable blocks (1 to 64) whose first block is nearest to a named block, the
 -- lower one at equal distance. Its numbers are listed as allocate lists them, rising. A run counts as an allocation of each block
--- in it".
+-- in it". Job 6: "A run from Job 4 sets it too" (the block to be searched first), "and is still listed rising."
 use Prim.Native.Nat.{ℕ}
 use mathlib.Core.Option.{Option}
 use mathlib.Core.List.{List, [], _∷_, _++_}

@@ -94,10 +94,10 @@ slots-shaped slots vs good = record { eight = good .1 .0 .1; tam = each-slot slo
 -- of a memory. In a proof `c .good .0` is what is to be known of a first parameter
 pub shaped : (memory : Memory) (vs : List Val) → Is memory-row memory vs → Shaped memory
 shaped memory vs good =
-    let slots = good .1 .1 .1 .1 .1 .0 in
+    let slots = good .1 .1 .1 .1 .1 .1 .0 in
     record {
-      sam = words-shaped (memory .sam .words) _ (good .1 .1 .1 .0 .1 .1 .0);
-      «com» = words-shaped (memory .com .words) _ (good .1 .1 .1 .1 .0 .1 .1 .0);
+      sam = words-shaped (memory .sam .words) _ (good .1 .1 .1 .1 .0 .1 .1 .0);
+      «com» = words-shaped (memory .com .words) _ (good .1 .1 .1 .1 .1 .0 .1 .1 .0);
       slots = sym (length-map (memory .slots) (slot-field .into)) ∙ slots .1 .0 .1;
       tam = each-shaped (memory .slots) (slots .0) (slots .1 .1);
     }

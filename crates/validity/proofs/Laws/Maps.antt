@@ -6,7 +6,8 @@ use mathlib.Core.Path.{_≡_, refl, sym, ap, ap₂, _∙_}
 use mathlib.Core.Bool.{Bool, true, false, cond, xor, _&&_, false≢true}
 use mathlib.Core.List.{List}
 use lib.ListN.{length, replicate}
-use borrow.Author.Tests.{eq-eqb}
+use lib.Dec.{ltb}
+use borrow.Author.Tests.{eq-eqb, ltb-true}
 use Rattle.bitmap.specs.Sizes.{bitmapWords, slotCount, blocksInRange}
 use Rattle.bitmap.specs.Bits.{bit, noBitsFrom}
 use Rattle.bitmap.proofs.Laws.Bits.{bit-empty, noBits-bit, bits-noBits}
@@ -31,6 +32,7 @@ use Rattle.validity.proofs.Laws.Right.{no-differs, passed-all, slot-rig
 abbrev pub volumeValid : Memory → Bool
 volumeValid memory =
     blocksInRange (memory .blocks)
+    && ltb (memory .cursor) (memory .blocks)
     && noBitsFrom (memory .blocks) (memory .sam .words)
     && noBitsFrom (memory .blocks) (memory .com .words)
 
@@ -48,14 +50,21 @@ module _ (memory : Memory) (shape : Shaped memory) where
 
   module _ (left : List ℕ) (quiet : memory .pending ≡ Pending.Nothing) (volume : volumeValid memory ≡ true) (passed : Passed memory slotCount left)
       (none : sameWords left (replicate bitmapWords 0) ≡ true) where
+    -- the block count and the cursor
+    abbrev head : Bool
+    head = blocksInRange (memory .blocks) && ltb (memory .cursor) (memory .blocks)
+
+    inHead : head ≡ true
+    inHead = and-first _ (noBitsFrom (memory .blocks) (memory .sam .words)) (and-first _ (noBitsFrom (memory .blocks) (memory .com .words)) volume)
+
     inRange : blocksInRange (memory .blocks) ≡ true
-    inRange = and-first _ (noBitsFrom (memory .blocks) (memory .sam .words)) (and-first _ (noBitsFrom (memory .blocks) (memory .com .words)) volume)
+    inRange = and-first _ (ltb (memory .cursor) (memory .blocks)) inHead
 
     samNone : noBitsFrom (memory .blocks) (memory .sam .words) ≡ true
-    samNone = and-second (blocksInRange (memory .blocks)) _ (and-first _ (noBitsFrom (memory .blocks) (memory .com .words)) volume)
+    samNone = and-second head _ (and-first _ (noBitsFrom (memory .blocks) (memory .com .words)) volume)
 
     comNone : noBitsFrom (memory .blocks) (memory .com .words) ≡ true
-    comNone = and-second (blocksInRange (memory .blocks) && noBitsFrom (memory .blocks) (memory .sam .words)) _ volume
+    comNone = and-second (head && noBitsFrom (memory .blocks) (memory .sam .words)) _ volume
 
     -- each block is touched just if COM differs from SAM
     exact : (b : ℕ) → touches memory b (memory .slots) ≡ one (differs memory b)
@@ -100,6 +109,7 @@ module _ (memory : Memory) (shape : Shaped memory) where
         record {
           some-blocks = inRange-low (memory .blocks) inRange;
           few-blocks = inRange-high (memory .blocks) inRange;
+          cursor-below = ltb-true (memory .cursor) (memory .blocks) (and-second (blocksInRange (memory .blocks)) _ inHead);
           sam-below = samNone;
           com-below = comNone;
           slots-valid = allSlots-all (slotValid (memory .blocks)) (memory .slots) slot-valid;

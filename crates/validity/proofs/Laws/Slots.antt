@@ -30,6 +30,6 @@ unfolding allSlots
 allSlots-all test [] h = refl
 allSlots-all test (slot ∷ slots) h = and-both (h 0 (suc-le-suc zero-le)) (allSlots-all test slots (λ s l. h (suc s) (suc-le-suc l)))
 
-pub parts-shaped : {blocks : ℕ} {sam «com» : List ℕ} {slots : List Slot} {pending : Pending} → IsBitmap sam → IsBitmap «com» → ShapedSlots slots
-    → Shaped (memoryOf blocks (bitmap sam) (bitmap «com») slots pending)
+pub parts-shaped : {blocks cursor : ℕ} {sam «com» : List ℕ} {slots : List Slot} {pending : Pending} → IsBitmap sam → IsBitmap «com» → ShapedSlots slots
+    → Shaped (memoryOf blocks cursor (bitmap sam) (bitmap «com») slots pending)
 parts-shaped samIs comIs shape = record { sam = samIs; «com» = comIs; slots = shape .eight; tam = shape .tam }

@@ -21,19 +21,19 @@ use Rattle.validity.proofs.maps_valid.Statement.{statement}
 use Rattle.validity.proofs.maps_valid.Tie as tie
 
 abbrev Inv-loop : tie.InvT-loop
-Inv-loop blocks sam «com» slots left₀ s₀ left s = Passed (memoryOf blocks (bitmap sam) (bitmap «com») slots Pending.Nothing) s left
+Inv-loop blocks cursor sam «com» slots left₀ s₀ left s = Passed (memoryOf blocks cursor (bitmap sam) (bitmap «com») slots Pending.Nothing) s left
 
 abbrev μ-loop : tie.MeasureT-loop
-μ-loop blocks sam «com» slots left₀ s₀ left s = slotCount - s
+μ-loop blocks cursor sam «com» slots left₀ s₀ left s = slotCount - s
 
 -- ---- what is known on the way
 
 abbrev memory-at : tie.Start Inv-loop μ-loop → Memory
 memory-at c =
-    memoryOf (c .args .blocks) (bitmap (c .args .sam .now)) (bitmap (c .args .«com» .now)) (c .args .t4) Pending.Nothing
+    memoryOf (c .args .blocks) (c .args .cursor) (bitmap (c .args .sam .now)) (bitmap (c .args .«com» .now)) (c .args .t5) Pending.Nothing
 
 shape-at : (c : tie.Start Inv-loop μ-loop) → Shaped (memory-at c)
-shape-at c = parts-shaped (c .pre .0) (c .pre .1) (slots-shaped (c .args .t4) _ (c .good .1 .1 .1 .0))
+shape-at c = parts-shaped (c .pre .0) (c .pre .1) (slots-shaped (c .args .t5) _ (c .good .1 .1 .1 .1 .0))
 
 abbrev start : tie.At-loop Inv-loop μ-loop → tie.Start Inv-loop μ-loop
 start c = c .before .before .before .before .before
@@ -45,7 +45,7 @@ volume-at c =
 
 -- the slot that a turn takes
 slot-at : (c : tie.In-loop Inv-loop μ-loop) (d : Slot)
-    → getD (start (c .before) .args .t4) (c .before .loop .s) d ≡ slotAt (memory-at (start (c .before))) (c .before .loop .s)
+    → getD (start (c .before) .args .t5) (c .before .loop .s) d ≡ slotAt (memory-at (start (c .before))) (c .before .loop .s)
 slot-at c d = slot-read (memory-at (start (c .before))) d (c .before .loop .s) (shape-at (start (c .before))) (c .loop-test .taken)
 
 -- where it is taken

@@ -7,7 +7,7 @@ use Rattle.model_types.specs.declared.memory.Pending.{Pending}
 use Rattle.model_types.specs.declared.memory.Memory.{Memory}
 use Rattle.model_types.specs.Memory.{bitmap, memoryOf, slotAt, withPending}
 use Rattle.model_types.specs.Pending.{ownerOf}
-use Rattle.model.specs.Valid.{valid}
+use Rattle.model.specs.Valid.{isQuiet, pendingValid, valid}
 use Rattle.model.proofs.Laws.Valid.{valid-parts}
 use Rattle.model_types.proofs.Laws.Shape.{Shaped, slots-shaped}
 use Rattle.validity.proofs.Laws.Answers.{taken-false, left-true}
@@ -19,10 +19,10 @@ use Rattle.validity.proofs.valid.Tie as tie
 -- ---- what is known on the way
 
 abbrev memory-at : tie.Start → Memory
-memory-at c = memoryOf (c .args .blocks) (bitmap (c .args .sam .now)) (bitmap (c .args .«com» .now)) (c .args .slots) (c .args .pending)
+memory-at c = memoryOf (c .args .blocks) (c .args .cursor) (bitmap (c .args .sam .now)) (bitmap (c .args .«com» .now)) (c .args .slots) (c .args .pending)
 
 shape-at : (c : tie.Start) → Shaped (memory-at c)
-shape-at c = parts-shaped (c .pre .0) (c .pre .1 .0) (slots-shaped (c .args .slots) _ (c .good .1 .1 .1 .0))
+shape-at c = parts-shaped (c .pre .0) (c .pre .1 .0) (slots-shaped (c .args .slots) _ (c .good .1 .1 .1 .1 .0))
 
 owner-at : (c : tie.Start) → c .args .owner ≡ slotAt (memory-at c) (ownerOf (c .args .pending))
 owner-at c = c .pre .1 .1
@@ -95,6 +95,7 @@ returns-4 c =
     (c .commit-valid .ensures)
 
 returns-5 : tie.Need-returns-5
+unfolding pendingValid isQuiet
 returns-5 c =
     let at = c .before .before in
     let entry = at .before .before in

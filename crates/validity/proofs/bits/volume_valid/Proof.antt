@@ -2,7 +2,9 @@
 use native.Mathlib.Omega.{arith}
 use mathlib.Core.Path.{_≡_}
 use mathlib.Core.Bool.{true}
+use lib.Dec.{ltb}
 use borrow.Author.Needs.{needs}
+use borrow.Author.Tests.{lt-ltb, le-ltb}
 use Rattle.bitmap.specs.Sizes.{blocksInRange}
 use Rattle.bitmap.specs.Bits.{noBitsFrom}
 use Rattle.model.proofs.Laws.DiskParts.{inRange-high}
@@ -19,10 +21,16 @@ in-range : (c : tie.Else1) → blocksInRange (start c .args .blocks) ≡ true
 in-range c = left-true _ _ (c .before .blocks-in-range .ensures) (c .if1 .left)
 
 abbrev ranged : tie.Else2 → tie.Else1
-ranged c = c .before .before
+ranged c = c .before
 
-sam-below : (c : tie.Else2) → noBitsFrom (start (ranged c) .args .blocks) (start (ranged c) .args .sam .now) ≡ true
-sam-below c = left-true _ _ (c .before .no-bits-from .ensures) (c .if2 .left)
+inside : (c : tie.Else2) → ltb (start (ranged c) .args .cursor) (start (ranged c) .args .blocks) ≡ true
+inside c = let a = start (ranged c) .args in lt-ltb (a .cursor) (a .blocks) (omega (arith, c .if2 .left))
+
+abbrev searched : tie.Else3 → tie.Else2
+searched c = c .before .before
+
+sam-below : (c : tie.Else3) → noBitsFrom (start (ranged (searched c)) .args .blocks) (start (ranged (searched c)) .args .sam .now) ≡ true
+sam-below c = left-true _ _ (c .before .no-bits-from .ensures) (c .if3 .left)
 
 -- ---- the answers
 
@@ -32,18 +40,26 @@ blocks-in-range-requires c κs = search needs
 returns : tie.Need-returns
 returns c = rw (taken-false _ _ (c .before .blocks-in-range .ensures) (c .if1 .taken))
 
-no-bits-from-requires : tie.Need-no-bits-from-requires
-no-bits-from-requires c κs = (start c .pre .0, omega (arith, inRange-high (start c .args .blocks) (in-range c)))
-
 returns-2 : tie.Need-returns-2
-returns-2 c = rw (in-range (c .before .before), taken-false _ _ (c .before .no-bits-from .ensures) (c .if2 .taken))
+returns-2 c = rw (in-range (c .before), le-ltb (start (c .before) .args .cursor) (start (c .before) .args .blocks) (c .if2 .taken))
+
+no-bits-from-requires : tie.Need-no-bits-from-requires
+no-bits-from-requires c κs =
+    let at = ranged c in (start at .pre .0, omega (arith, inRange-high (start at .args .blocks) (in-range at)))
+
+returns-3 : tie.Need-returns-3
+returns-3 c =
+    let at = c .before .before in
+    rw (in-range (ranged at), inside at, taken-false _ _ (c .before .no-bits-from .ensures) (c .if3 .taken))
 
 no-bits-from-requires-2 : tie.Need-no-bits-from-requires-2
 no-bits-from-requires-2 c κs =
-    let at = ranged c in (start at .pre .1, omega (arith, inRange-high (start at .args .blocks) (in-range at)))
+    let at = ranged (searched c) in (start at .pre .1, omega (arith, inRange-high (start at .args .blocks) (in-range at)))
 
-returns-3 : tie.Need-returns-3
-returns-3 c = rw (in-range (ranged (c .before)), sam-below (c .before)) (c .no-bits-from2 .ensures)
+returns-4 : tie.Need-returns-4
+returns-4 c =
+    let at = searched (c .before) in
+    rw (in-range (ranged at), inside at, sam-below (c .before)) (c .no-bits-from2 .ensures)
 
 pub volume-valid-spec : {M : Type 1} → statement M
 volume-valid-spec =
@@ -51,7 +67,8 @@ volume-valid-spec =
     (tie.spec
     blocks-in-range-requires
     returns
-    no-bits-from-requires
     returns-2
+    no-bits-from-requires
+    returns-3
     no-bits-from-requires-2
-    returns-3)
+    returns-4)

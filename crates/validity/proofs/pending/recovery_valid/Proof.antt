@@ -28,7 +28,7 @@ abbrev μ-loop : tie.MeasureT-loop
 
 abbrev memory-at : tie.Start Inv-loop μ-loop → Memory
 memory-at c =
-    memoryOf (c .args .blocks) (bitmap (c .args .sam .now)) (bitmap (c .args .«com» .now)) (c .args .t4) (Pending.Recovery (c .args .done) (c .args .due))
+    memoryOf (c .args .blocks) 0 (bitmap (c .args .sam .now)) (bitmap (c .args .«com» .now)) (c .args .t4) (Pending.Recovery (c .args .done) (c .args .due))
 
 slots-at : (c : tie.Start Inv-loop μ-loop) → ShapedSlots (c .args .t4)
 slots-at c = slots-shaped (c .args .t4) _ (c .good .1 .1 .1 .0)

@@ -19,7 +19,7 @@ returns c =
     let a = c .before .before .args in
     c .new .ensures
     ∙ ap
-    (λ (slot : Slot). memoryOf (a .blocks) (a .sam) (a .sam) (replicate slotCount slot) (a .pending))
+    (λ (slot : Slot). memoryOf (a .blocks) 0 (a .sam) (a .sam) (replicate slotCount slot) (a .pending))
     (c .before .idle .ensures)
 
 pub quiet-spec : {M : Type 1} → statement M
