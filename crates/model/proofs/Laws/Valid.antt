@@ -29,8 +29,8 @@ pub record ValidParts (memory : Memory) : Type 0 where
   pub pending-valid : pendingValid memory (memory .pending) ≡ true
 
 -- the first two: the block count and the cursor
-abbrev head : Memory → Bool
-head memory = blocksInRange (memory .blocks) && ltb (memory .cursor) (memory .blocks)
+abbrev pub headValid : Memory → Bool
+headValid memory = blocksInRange (memory .blocks) && ltb (memory .cursor) (memory .blocks)
 
 pub valid-parts : (memory : Memory) → valid memory ≡ true → ValidParts memory
 unfolding valid
@@ -45,16 +45,16 @@ valid-parts memory e =
       some-blocks = inRange-low (memory .blocks) e0;
       few-blocks = inRange-high (memory .blocks) e0;
       cursor-below = ltb-true (memory .cursor) (memory .blocks) (and-second (blocksInRange (memory .blocks)) _ e1);
-      sam-below = and-second (head memory) _ e2;
-      com-below = and-second (head memory && noBitsFrom (memory .blocks) (memory .sam .words)) _ e3;
+      sam-below = and-second (headValid memory) _ e2;
+      com-below = and-second (headValid memory && noBitsFrom (memory .blocks) (memory .sam .words)) _ e3;
       slots-valid =
           and-second
-          (head memory && noBitsFrom (memory .blocks) (memory .sam .words) && noBitsFrom (memory .blocks) (memory .com .words))
+          (headValid memory && noBitsFrom (memory .blocks) (memory .sam .words) && noBitsFrom (memory .blocks) (memory .com .words))
           _
           e4;
       touches-agree =
           and-second
-          (head memory
+          (headValid memory
           && noBitsFrom (memory .blocks) (memory .sam .words)
           && noBitsFrom (memory .blocks) (memory .com .words)
           && allSlots (slotValid (memory .blocks)) (memory .slots))
@@ -62,7 +62,7 @@ valid-parts memory e =
           e5;
       pending-valid =
           and-second
-          (head memory
+          (headValid memory
           && noBitsFrom (memory .blocks) (memory .sam .words)
           && noBitsFrom (memory .blocks) (memory .com .words)
           && allSlots (slotValid (memory .blocks)) (memory .slots)
@@ -143,12 +143,12 @@ parts-valid memory parts =
     and-both
     (and-both
     (and-both
-    (and-both (and-both head-valid (parts .sam-below)) (parts .com-below))
+    (and-both (and-both head-is (parts .sam-below)) (parts .com-below))
     (parts .slots-valid))
     (parts .touches-agree))
     (parts .pending-valid)
   where
-    head-valid : head memory ≡ true
-    head-valid =
+    head-is : headValid memory ≡ true
+    head-is =
         and-both (blocks-inRange (memory .blocks) (parts .some-blocks) (parts .few-blocks))
         (lt-ltb (memory .cursor) (memory .blocks) (parts .cursor-below))

@@ -19,7 +19,7 @@ use Rattle.model_types.specs.Memory.{slotAt, isActive, emptyBitmap, tamBit}
 use Rattle.model.specs.Valid.{touched, sameWords, allSlots, slotValid, touches, touchesAgree, pendingValid, valid}
 use Rattle.model.proofs.Laws.Writes.{and-both, and-first, and-second, same-words, words-same}
 use Rattle.model.proofs.Laws.DiskParts.{inRange-low, inRange-high}
-use Rattle.model.proofs.Laws.Valid.{ValidParts, valid-parts, parts-valid, touchesBlock, touches-one, noBits-empty}
+use Rattle.model.proofs.Laws.Valid.{ValidParts, headValid, valid-parts, parts-valid, touchesBlock, touches-one, noBits-empty}
 use Rattle.model.proofs.Laws.Touches.{one, differs, active-valid}
 use Rattle.model_types.proofs.Laws.Shape.{Shaped}
 use Rattle.validity.proofs.Laws.Slots.{bool-ext, not-true-false, allSlots-all}
@@ -31,8 +31,7 @@ use Rattle.validity.proofs.Laws.Right.{no-differs, passed-all, slot-rig
 -- the first parts of `valid`
 abbrev pub volumeValid : Memory → Bool
 volumeValid memory =
-    blocksInRange (memory .blocks)
-    && ltb (memory .cursor) (memory .blocks)
+    headValid memory
     && noBitsFrom (memory .blocks) (memory .sam .words)
     && noBitsFrom (memory .blocks) (memory .com .words)
 
@@ -50,21 +49,17 @@ module _ (memory : Memory) (shape : Shaped memory) where
 
   module _ (left : List ℕ) (quiet : memory .pending ≡ Pending.Nothing) (volume : volumeValid memory ≡ true) (passed : Passed memory slotCount left)
       (none : sameWords left (replicate bitmapWords 0) ≡ true) where
-    -- the block count and the cursor
-    abbrev head : Bool
-    head = blocksInRange (memory .blocks) && ltb (memory .cursor) (memory .blocks)
-
-    inHead : head ≡ true
+    inHead : headValid memory ≡ true
     inHead = and-first _ (noBitsFrom (memory .blocks) (memory .sam .words)) (and-first _ (noBitsFrom (memory .blocks) (memory .com .words)) volume)
 
     inRange : blocksInRange (memory .blocks) ≡ true
     inRange = and-first _ (ltb (memory .cursor) (memory .blocks)) inHead
 
     samNone : noBitsFrom (memory .blocks) (memory .sam .words) ≡ true
-    samNone = and-second head _ (and-first _ (noBitsFrom (memory .blocks) (memory .com .words)) volume)
+    samNone = and-second (headValid memory) _ (and-first _ (noBitsFrom (memory .blocks) (memory .com .words)) volume)
 
     comNone : noBitsFrom (memory .blocks) (memory .com .words) ≡ true
-    comNone = and-second (head && noBitsFrom (memory .blocks) (memory .sam .words)) _ volume
+    comNone = and-second (headValid memory && noBitsFrom (memory .blocks) (memory .sam .words)) _ volume
 
     -- each block is touched just if COM differs from SAM
     exact : (b : ℕ) → touches memory b (memory .slots) ≡ one (differs memory b)
