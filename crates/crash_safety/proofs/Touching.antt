@@ -1,5 +1,5 @@
--- What start, allocate, deallocate, precommit, drop and revoke have in common: one slot changes, and COM; its sets in the ledger
--- go with it.
+-- What start, allocate, deallocate, precommit, drop and revoke have in common: one slot changes, COM and, with a grant, the cursor;
+-- the slot's sets in the ledger go with it.
 use Prim.Native.Nat.{ℕ, _+_, _≤_, _<_}
 use native.Mathlib.Decide.{ℕ-discrete}
 use native.Mathlib.Omega.{arith}

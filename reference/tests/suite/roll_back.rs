@@ -17,6 +17,16 @@ fn with_state(memory: &Memory, slot: u32, state: SlotState) -> Memory {
     memory
 }
 
+/// A drop of this open slot leaves this memory, and so does a precommit and then a revoke.
+fn assert_either_leaves(mut state: State, slot: u32, expected: &Memory) {
+    let mut dropped = state.memory.clone();
+    assert_eq!(drop(&mut dropped, slot), Ok(()));
+    assert_eq!(dropped, *expected);
+    state.precommit(slot);
+    assert_eq!(revoke(&mut state.memory, slot), Ok(()));
+    assert_eq!(state.memory, *expected);
+}
+
 #[test]
 fn either_undoes_the_transactions_own_touches_alone() {
     // The other slot is open or precommitted.
@@ -28,12 +38,7 @@ fn either_undoes_the_transactions_own_touches_alone() {
         let mut expected = state.memory.clone();
         expected.com = bitmap(!2, 0b1100);
         expected.slots[1] = Slot::IDLE;
-        let mut dropped = state.clone();
-        assert_eq!(drop(&mut dropped.memory, 1), Ok(()));
-        assert_eq!(dropped.memory, expected);
-        state.precommit(1);
-        assert_eq!(revoke(&mut state.memory, 1), Ok(()));
-        assert_eq!(state.memory, expected);
+        assert_either_leaves(state, 1, &expected);
     }
 }
 
@@ -43,12 +48,7 @@ fn either_leaves_no_bit_from_m_on() {
         let mut state = State::opened(blocks);
         state.start(6);
         state.allocate(6, blocks);
-        let mut dropped = state.clone();
-        assert_eq!(drop(&mut dropped.memory, 6), Ok(()));
-        assert_eq!(dropped.memory, State::opened(blocks).memory);
-        state.precommit(6);
-        assert_eq!(revoke(&mut state.memory, 6), Ok(()));
-        assert_eq!(state.memory, State::opened(blocks).memory);
+        assert_either_leaves(state, 6, &State::opened(blocks).memory);
     }
 }
 
@@ -93,12 +93,7 @@ fn an_extent_is_given_back_by_either() {
     state.start(2);
     assert_eq!(allocate_extent(&mut state.memory, 2, 40, 50, &mut state.list), Ok(50));
     let expected = Memory { cursor: 90, ..State::opened(100).memory };
-    let mut dropped = state.clone();
-    assert_eq!(drop(&mut dropped.memory, 2), Ok(()));
-    assert_eq!(dropped.memory, expected);
-    state.precommit(2);
-    assert_eq!(revoke(&mut state.memory, 2), Ok(()));
-    assert_eq!(state.memory, expected);
+    assert_either_leaves(state, 2, &expected);
 }
 
 #[test]
