@@ -15,6 +15,8 @@ mod memory_damage;
 mod mending;
 mod other_memory;
 mod pending_damage;
+mod reserve_damage;
+mod reserves;
 mod scenes;
 mod text;
 mod volumes;
@@ -35,7 +37,7 @@ use std::collections::VecDeque;
 
 const NEW_VOLUME_IN: u32 = 80;
 const WIDE_WORK_IN: u32 = 800;
-const MALFORMED_IN: u32 = 17;
+const MALFORMED_IN: u32 = 15;
 const STEPS_IN: u32 = 4;
 const MOST_STEPS: u32 = 4;
 /// One in this many steps of pending work isn't a store.
@@ -43,14 +45,15 @@ const INTERRUPTED_IN: u32 = 10;
 const STRAYS_IN: u32 = 6;
 const MOST_STRAYS: u32 = 3;
 const SHORT_LIST_IN: u32 = 4;
-const SHOW_AFTER_STEP_IN: u32 = 10;
+const SHOW_AFTER_STEP_IN: u32 = 12;
 const UNSHOWN_CALL_IN: u32 = 3;
-const SHOW_STRAY_IN: u32 = 3;
+const SHOW_STRAY_IN: u32 = 4;
 const SHOW_DAMAGE_IN: u32 = 10;
 const STATUS_AFTER_CALL_IN: u32 = 6;
 const STATUS_OF_DAMAGE_IN: u32 = 4;
 const COST_AFTER_CALL_IN: u32 = 12;
 const EXTENT_AFTER_CALL_IN: u32 = 16;
+const RESERVE_AFTER_CALL_IN: u32 = 12;
 /// One in this many calls of status is a test line, the others are bench lines.
 const STATUS_LINE_IN: u32 = 6;
 
@@ -118,6 +121,7 @@ impl Damage {
             self.status_one_in(STATUS_AFTER_CALL_IN);
             self.cost_one_in(COST_AFTER_CALL_IN);
             self.extent_one_in(EXTENT_AFTER_CALL_IN);
+            self.reserve_one_in(RESERVE_AFTER_CALL_IN);
         }
     }
 
@@ -136,6 +140,7 @@ impl Damage {
                 let near = self.near_for(aim.error, number);
                 self.extent(slot, number, near)
             }
+            Call::Reserve => self.reserve(slot, number),
         };
         if error == aim.error {
             self.strike_off(aim);
@@ -160,6 +165,7 @@ impl Damage {
             self.status_one_in(STATUS_AFTER_CALL_IN);
             self.cost_one_in(COST_AFTER_CALL_IN);
             self.extent_one_in(EXTENT_AFTER_CALL_IN);
+            self.reserve_one_in(RESERVE_AFTER_CALL_IN);
         }
     }
 

@@ -48,6 +48,10 @@ pub enum Error {
     MalformedLine = 21,
     /// There aren't as many adjoining available blocks as the count.
     NoExtent = 22,
+    /// All reservations would add up to more than the available blocks.
+    OverReserved = 23,
+    /// The grant would leave fewer available blocks than the other slots' reservations add up to.
+    ReservedForOthers = 24,
 }
 
 impl Error {

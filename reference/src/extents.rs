@@ -2,6 +2,7 @@
 //! lines make. The maker runs the inspector beside it and looks at its state.
 
 mod calls;
+mod reserves;
 mod textures;
 mod volumes;
 

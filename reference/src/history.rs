@@ -4,6 +4,7 @@
 mod choice;
 mod extents;
 pub(crate) mod malformed;
+mod reserves;
 pub(crate) mod text;
 mod with_cost;
 mod with_status;
@@ -31,6 +32,15 @@ pub struct Shape {
     pub reformats: bool,
     /// Whether extent lines, for `inspect`, stand among the bench lines.
     pub extents: bool,
+    /// Whether reserve lines, for `inspect`, stand among them.
+    pub reserves: bool,
+}
+
+impl Shape {
+    /// Bench lines in form alone, of one volume.
+    pub fn plain(blocks: u32) -> Shape {
+        Shape { blocks, malformed: false, reformats: false, extents: false, reserves: false }
+    }
 }
 
 /// What the transactions do for a while.
@@ -73,7 +83,7 @@ impl History {
 
     /// A history that goes on from states that others bring about.
     pub(crate) fn to_be_resumed(seed: u64) -> History {
-        let shape = Shape { blocks: 0, malformed: false, reformats: false, extents: false };
+        let shape = Shape::plain(0);
         History::from_start(seed, shape)
     }
 
@@ -125,8 +135,8 @@ impl Iterator for History {
     type Item = Vec<u8>;
 
     fn next(&mut self) -> Option<Vec<u8>> {
-        if let Some(extent) = self.next_extent() {
-            return Some(extent);
+        if let Some(line) = self.next_extent().or_else(|| self.next_reserve()) {
+            return Some(line);
         }
         let line = self.choose();
         let malformed = self.shape.malformed && self.formatted && self.random.one_in(MALFORMED_IN);

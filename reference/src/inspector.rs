@@ -1,12 +1,12 @@
 //! The inspector: what its calls are lent, and what each bench line and test line does to it.
 
-use crate::calls::{allocate_extent, commit_cost, open, status, MAX_COUNT};
+use crate::calls::{allocate_extent, commit_cost, open, reserve, status, MAX_COUNT};
 use crate::codes::{pending_of, slot_state_of};
 use crate::disk::DISK_WORDS;
 use crate::error::Error;
 use crate::lent::Lent;
 use crate::line::{self, Line, Operation};
-use crate::memory::Memory;
+use crate::memory::{Memory, Slot};
 use crate::test_line::{self, TestLine};
 
 /// The longest disk that a test line makes.
@@ -69,16 +69,18 @@ impl Inspector {
             TestLine::Sam { index, word } => *memory.sam.words.get_mut(index as usize)? = word,
             TestLine::Com { index, word } => *memory.com.words.get_mut(index as usize)? = word,
             TestLine::Tam { slot, index, word } => {
-                let slot = memory.slots.get_mut(slot as usize)?;
-                *slot.tam.words.get_mut(index as usize)? = word;
+                *slot_of(memory, slot)?.tam.words.get_mut(index as usize)? = word;
             }
-            TestLine::State { slot, code } => {
-                memory.slots.get_mut(slot as usize)?.state = slot_state_of(code)?;
-            }
+            TestLine::State { slot, code } => slot_of(memory, slot)?.state = slot_state_of(code)?,
+            TestLine::Reservation { slot, blocks } => slot_of(memory, slot)?.reservation = blocks,
+            TestLine::Drawn { slot, blocks } => slot_of(memory, slot)?.drawn = blocks,
             TestLine::Pending { codes } => memory.pending = pending_of(codes)?,
             TestLine::List { places } => self.places = at_most(places, LIST_PLACES)?,
-            TestLine::Show | TestLine::Status | TestLine::Cost { .. } | TestLine::Extent { .. } => {
-            }
+            TestLine::Show
+            | TestLine::Status
+            | TestLine::Cost { .. }
+            | TestLine::Extent { .. }
+            | TestLine::Reserve { .. } => {}
         }
         Some(())
     }
@@ -101,6 +103,9 @@ impl Inspector {
                 let list = &mut self.list[..self.places];
                 allocate_extent(&mut self.memory, slot, count, near, list)
             }
+            TestLine::Reserve { slot, blocks } => {
+                reserve(&mut self.memory, slot, blocks).map(|()| 0)
+            }
             _ => Ok(0),
         }
     }
@@ -110,6 +115,10 @@ impl Default for Inspector {
     fn default() -> Inspector {
         Inspector::new()
     }
+}
+
+fn slot_of(memory: &mut Memory, slot: u32) -> Option<&mut Slot> {
+    memory.slots.get_mut(slot as usize)
 }
 
 fn at_most(number: u32, limit: usize) -> Option<usize> {

@@ -1,4 +1,4 @@
-//! A second block allocator, written from document 01 and from jobs 1, 2, 4, 5 and 6 of document 02
+//! A second block allocator, written from document 01 and from jobs 1, 2 and 4 to 7 of document 02
 //! alone, against which another one is compared.
 
 mod agreement;
@@ -35,7 +35,7 @@ pub use bitmap::{majority, Bitmap};
 pub use block_set::BlockSet;
 pub use calls::{
     allocate, allocate_extent, commit, commit_cost, deallocate, drop, format, open, precommit,
-    revoke, start, status, store, Opened, Status, MAX_COUNT,
+    reserve, revoke, start, status, store, Opened, Status, MAX_COUNT,
 };
 pub use disk::{BITMAP_START, BLOCKS_POSITION, DISK_WORDS, LOG_LENGTH_POSITION, LOG_START};
 pub use error::Error;

@@ -11,13 +11,13 @@ use std::str::FromStr;
 const USAGE: &str = "usage: reference bench
        reference inspect
        reference sweep
-       reference history SEED LINES BLOCKS [--malformed] [--status] [--cost] [--extent]
+       reference history SEED LINES BLOCKS [--malformed] [--status] [--cost] [--extent] [--reserve]
        reference damage SEED LINES
        reference extents SEED LINES
 BLOCKS is 1 to 4096, or 0 for a random number
-with --status, --cost and --extent there are further lines, for inspect";
+with --status, --cost, --extent and --reserve there are further lines, for inspect";
 
-const HISTORY_OPTIONS: [&str; 4] = ["--malformed", "--status", "--cost", "--extent"];
+const HISTORY_OPTIONS: [&str; 5] = ["--malformed", "--status", "--cost", "--extent", "--reserve"];
 
 fn main() -> ExitCode {
     let arguments: Vec<String> = std::env::args().skip(1).collect();
@@ -44,9 +44,10 @@ fn main() -> ExitCode {
 }
 
 fn print_history(seed: &str, lines: &str, blocks: &str, options: &[&str]) -> io::Result<()> {
-    let [malformed, status, cost, extents] = history_options(options)?;
+    let [malformed, status, cost, extents, reserves] = history_options(options)?;
     let seed = number(seed)?;
-    let shape = Shape { blocks: number(blocks)?, malformed, reformats: true, extents };
+    let shape =
+        Shape { malformed, reformats: true, extents, reserves, ..Shape::plain(number(blocks)?) };
     let history = History::new(seed, shape).ok_or_else(usage_error)?.take(number(lines)?);
     let mut lines: Box<dyn Iterator<Item = Vec<u8>>> = Box::new(history);
     if status {
@@ -59,7 +60,7 @@ fn print_history(seed: &str, lines: &str, blocks: &str, options: &[&str]) -> io:
 }
 
 /// Which of a history's options are given. They stand in any order, none twice.
-fn history_options(options: &[&str]) -> io::Result<[bool; 4]> {
+fn history_options(options: &[&str]) -> io::Result<[bool; 5]> {
     let given = HISTORY_OPTIONS.map(|option| options.contains(&option));
     let known = given.iter().filter(|is_given| **is_given).count();
     if known == options.len() {

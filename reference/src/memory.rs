@@ -10,15 +10,40 @@ pub enum SlotState {
     Precommitted,
 }
 
-/// A transaction slot with its bitmap, TAM.
+/// A transaction slot with its bitmap, TAM, its reservation, document 02's claim (job 7), and what
+/// its transaction has drawn from that.
 #[derive(Clone, Copy, PartialEq, Eq, Debug)]
 pub struct Slot {
     pub state: SlotState,
     pub tam: Bitmap,
+    pub reservation: u32,
+    pub drawn: u32,
 }
 
 impl Slot {
-    pub const IDLE: Slot = Slot { state: SlotState::Idle, tam: Bitmap::EMPTY };
+    pub const IDLE: Slot = Slot::unreserved(SlotState::Idle, Bitmap::EMPTY);
+
+    /// A slot without a reservation, whose transaction has drawn nothing.
+    pub const fn unreserved(state: SlotState, tam: Bitmap) -> Slot {
+        Slot { state, tam, reservation: 0, drawn: 0 }
+    }
+
+    /// Lowers the reservation by the blocks granted, not below 0. What it was lowered by is drawn.
+    pub fn draw(&mut self, granted: u32) {
+        let drawn = granted.min(self.reservation);
+        self.reservation -= drawn;
+        self.drawn += drawn;
+    }
+
+    /// Makes the slot of a committed transaction idle. What this one has drawn stays used.
+    pub fn end_committed(&mut self) {
+        *self = Slot { reservation: self.reservation, ..Slot::IDLE };
+    }
+
+    /// Makes the slot of a transaction rolled back idle. What this one has drawn is put back.
+    pub fn end_rolled_back(&mut self) {
+        *self = Slot { reservation: self.reservation + self.drawn, ..Slot::IDLE };
+    }
 }
 
 /// The pending work, document 01's store work in hand, with its stores done and due.
@@ -47,7 +72,8 @@ impl Memory {
     /// The memory of zeros, which a crash leaves. Its m is 0, so it isn't valid.
     pub const ZEROS: Memory = Memory::opened(0, Bitmap::EMPTY, Pending::Nothing);
 
-    /// The memory that an open gives: all slots idle, COM equal to SAM, the search from block 0 on.
+    /// The memory that an open gives: all slots idle and without reservations, COM equal to
+    /// SAM, the search from block 0 on.
     pub const fn opened(blocks: u32, sam: Bitmap, pending: Pending) -> Memory {
         Memory { blocks, cursor: 0, sam, com: sam, slots: [Slot::IDLE; Memory::SLOTS], pending }
     }
@@ -78,6 +104,29 @@ impl Memory {
     /// The number of available blocks. Any words and numbers may stand in the memory.
     pub fn available(&self) -> u32 {
         (0..Bitmap::WORDS).map(|word| self.available_in(word).count_ones()).sum()
+    }
+
+    /// The same where no bitmap has a bit from m on.
+    pub fn available_where_bitmaps_fit(&self) -> u32 {
+        let words = self.sam.words.iter().zip(&self.com.words);
+        let used: u32 = words.map(|(sam, com)| (sam | com).count_ones()).sum();
+        self.blocks - used
+    }
+
+    /// What all reservations add up to. A damaged memory may hold eight of the largest.
+    pub fn reserved(&self) -> u64 {
+        self.slots.iter().map(|slot| u64::from(slot.reservation)).sum()
+    }
+
+    /// What the reservations of all slots but this one add up to.
+    pub fn reserved_by_others(&self, index: usize) -> u64 {
+        self.reserved() - u64::from(self.slots[index].reservation)
+    }
+
+    /// The number of blocks that this transaction took: TAM 1 and SAM 0.
+    pub fn taken_blocks(&self, tam: &Bitmap) -> u32 {
+        let words = tam.words.iter().zip(&self.sam.words);
+        words.map(|(tam, sam)| (tam & !sam).count_ones()).sum()
     }
 
     /// t, the number of blocks that this transaction has touched: where TAM differs from SAM.

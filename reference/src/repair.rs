@@ -45,6 +45,12 @@ fn slot_lines(slot: u32, from: &Slot, to: &Slot) -> Vec<TestLine> {
     if from.state != to.state {
         lines.push(TestLine::State { slot, code: slot_state_code(to.state) });
     }
+    if from.reservation != to.reservation {
+        lines.push(TestLine::Reservation { slot, blocks: to.reservation });
+    }
+    if from.drawn != to.drawn {
+        lines.push(TestLine::Drawn { slot, blocks: to.drawn });
+    }
     lines
 }
 

@@ -2,6 +2,7 @@
 
 use crate::codes::{pending_codes, slot_state_code};
 use crate::inspector::Inspector;
+use crate::memory::Slot;
 use std::fmt::{self, Display, Formatter};
 
 impl Display for Inspector {
@@ -14,8 +15,9 @@ impl Display for Inspector {
         writeln!(output, "sam{}", Words(&memory.sam.words))?;
         writeln!(output, "com{}", Words(&memory.com.words))?;
         for (index, slot) in memory.slots.iter().enumerate() {
-            let state = slot_state_code(slot.state);
-            writeln!(output, "slot {index} state={state}{}", Words(&slot.tam.words))?;
+            let Slot { state, tam, reservation, drawn } = slot;
+            write!(output, "slot {index} state={} ", slot_state_code(*state))?;
+            writeln!(output, "reservation={reservation} drawn={drawn}{}", Words(&tam.words))?;
         }
         writeln!(output, "disk length={}{}", self.disk.len(), Words(&self.disk))?;
         write!(output, "list length={}", self.places)?;

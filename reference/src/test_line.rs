@@ -13,10 +13,13 @@ pub enum TestLine {
     Com { index: u32, word: u32 },
     Tam { slot: u32, index: u32, word: u32 },
     State { slot: u32, code: u32 },
+    Reservation { slot: u32, blocks: u32 },
+    Drawn { slot: u32, blocks: u32 },
     Pending { codes: [u32; 4] },
     List { places: u32 },
     Cost { slot: u32, count: u32 },
     Extent { slot: u32, count: u32, near: u32 },
+    Reserve { slot: u32, blocks: u32 },
     Show,
     Status,
 }
@@ -33,10 +36,13 @@ impl TestLine {
             TestLine::Com { index, word } => ("com", vec![index, word]),
             TestLine::Tam { slot, index, word } => ("tam", vec![slot, index, word]),
             TestLine::State { slot, code } => ("state", vec![slot, code]),
+            TestLine::Reservation { slot, blocks } => ("reservation", vec![slot, blocks]),
+            TestLine::Drawn { slot, blocks } => ("drawn", vec![slot, blocks]),
             TestLine::Pending { codes } => ("pending", codes.to_vec()),
             TestLine::List { places } => ("list", vec![places]),
             TestLine::Cost { slot, count } => ("cost", vec![slot, count]),
             TestLine::Extent { slot, count, near } => ("extent", vec![slot, count, near]),
+            TestLine::Reserve { slot, blocks } => ("reserve", vec![slot, blocks]),
             TestLine::Show => ("show", Vec::new()),
             TestLine::Status => ("status", Vec::new()),
         }
@@ -58,12 +64,15 @@ pub fn parse(line: &[u8]) -> Option<TestLine> {
         (b"com", &[index, word]) => Some(TestLine::Com { index, word }),
         (b"tam", &[slot, index, word]) => Some(TestLine::Tam { slot, index, word }),
         (b"state", &[slot, code]) => Some(TestLine::State { slot, code }),
+        (b"reservation", &[slot, blocks]) => Some(TestLine::Reservation { slot, blocks }),
+        (b"drawn", &[slot, blocks]) => Some(TestLine::Drawn { slot, blocks }),
         (b"pending", &[kind, slot, done, due]) => {
             Some(TestLine::Pending { codes: [kind, slot, done, due] })
         }
         (b"list", &[places]) => Some(TestLine::List { places }),
         (b"cost", &[slot, count]) => Some(TestLine::Cost { slot, count }),
         (b"extent", &[slot, count, near]) => Some(TestLine::Extent { slot, count, near }),
+        (b"reserve", &[slot, blocks]) => Some(TestLine::Reserve { slot, blocks }),
         (b"show", &[]) => Some(TestLine::Show),
         (b"status", &[]) => Some(TestLine::Status),
         _ => None,

@@ -1,4 +1,5 @@
-//! The rules of a valid memory (document 01: "Memory is fit if", and document 02, job 6), cause 1.
+//! The rules of a valid memory (document 01: "Memory is fit if", and document 02, jobs 6 and 7),
+//! cause 1.
 
 use crate::bitmap::Bitmap;
 use crate::memory::{Memory, Pending, Slot, SlotState};
@@ -11,6 +12,7 @@ impl Memory {
             && self.cursor < self.blocks
             && self.bitmaps_fit()
             && self.touches_agree()
+            && self.reservations_fit()
             && self.pending_is_valid()
     }
 
@@ -30,6 +32,15 @@ impl Memory {
         no_block_twice && differences_are(&touched, &self.com, &self.sam)
     }
 
+    /// All reservations add up to at most the available blocks, and no slot has drawn more than the
+    /// blocks it took. The bitmaps fit; blocks are counted only where there is something to compare.
+    fn reservations_fit(&self) -> bool {
+        let reserved = self.reserved();
+        let has_taken = |slot: &Slot| slot.drawn == 0 || slot.drawn <= self.taken_blocks(&slot.tam);
+        (reserved == 0 || reserved <= u64::from(self.available_where_bitmaps_fit()))
+            && self.slots.iter().all(has_taken)
+    }
+
     fn pending_is_valid(&self) -> bool {
         match self.pending {
             Pending::Nothing => true,
@@ -40,7 +51,7 @@ impl Memory {
 
     fn commit_is_valid(&self, slot: u32, due: u32) -> bool {
         match self.slots.get(slot as usize) {
-            Some(Slot { state: SlotState::Precommitted, tam }) => {
+            Some(Slot { state: SlotState::Precommitted, tam, .. }) => {
                 let changed = self.changed_words(tam);
                 changed >= 1 && due == StoreList::due_for(changed)
             }

@@ -14,11 +14,15 @@ use model_types::answer::GrantAnswer;
 use model_types::answer::Granted;
 use model_types::error::Error;
 use model_types::memory::Memory;
+use reserves::change::draw;
+use reserves::sums::leaves_fewer;
+use reserves::sums::others;
+use validity::Numbers;
 use validity::valid;
 use verdicts::ready::open;
 use verdicts::verdict::Verdict;
 
-// After the causes of an open slot, 15, 16 and 17.
+// After the causes of an open slot, 15, 16, 17 and 24. The others' reservations add up to `reserved`.
 fn enough<'a>(
     earlier: Verdict,
     blocks: u32,
@@ -26,19 +30,24 @@ fn enough<'a>(
     com: &'a [u32; 128],
     count: u32,
     list: &[u32],
+    reserved: u64,
 ) -> Verdict
     requires { ⌜ IsBitmap (now sam) ⌝ }
     requires { ⌜ IsBitmap (now «com») ⌝ }
     requires { ⌜ (isAccepted earlier ≡ true → blocks ≤ maxBlocks) ⌝ }
-    ensures { λ r. ⌜ r ≡ thenCauses earlier (countCauses blocks (now (sam .entry)) (now («com» .entry)) count (now (list .entry))) ⌝ }
+    ensures { λ r. ⌜ r ≡ thenCauses earlier (countCauses blocks (now (sam .entry)) (now («com» .entry)) count (now (list .entry)) reserved) ⌝ }
 {
     if !earlier.is_accepted() {
         return earlier;
     }
-    let few = count_available(sam, com, blocks) < count;
+    let available = count_available(sam, com, blocks);
     let counted = Verdict::Accepted.unless(!Bitmap::count_in_range(count), Error::CountRange);
     let roomy = counted.unless(list.len() < count as usize, Error::ListShort);
-    roomy.unless(few, Error::TooFewAvailable)
+    let enough = roomy.unless(available < count, Error::TooFewAvailable);
+    enough.unless(
+        leaves_fewer(available, count, reserved),
+        Error::ReservedForOthers,
+    )
 }
 
 // Gives a slot blocks. Refused, the memory and the list stay.
@@ -52,14 +61,29 @@ pub fn allocate(mut memory: Memory, slot: u32, count: u32, list: &mut [u32]) -> 
     let sam = memory.sam;
     let mut com = memory.com;
     let mut slots = memory.slots;
+    let mut reserves = memory.reserves;
+    let numbers = Numbers {
+        blocks,
+        cursor: first,
+        reserves,
+    };
     let pending = memory.pending;
     let owner = slots[pending.owner()];
-    let sound = valid(blocks, first, &sam.words, &com.words, slots, pending, owner);
+    let sound = valid(numbers, &sam.words, &com.words, slots, pending, owner);
     let at = Bitmap::slot_index(slot);
     let mut own = slots[at];
     let state = own.state;
     let earlier = open(sound, pending, slot, state);
-    let verdict = enough(earlier, blocks, &sam.words, &com.words, count, list);
+    let reserved = others(reserves, at);
+    let verdict = enough(
+        earlier,
+        blocks,
+        &sam.words,
+        &com.words,
+        count,
+        list,
+        reserved,
+    );
     let mut answer = verdict.grant(0);
     if verdict.is_accepted() {
         first = take_met(
@@ -72,10 +96,13 @@ pub fn allocate(mut memory: Memory, slot: u32, count: u32, list: &mut [u32]) -> 
             count,
         );
         slots[at] = own;
+        let drawn = draw(reserves, at, count);
+        reserves = drawn;
         answer = GrantAnswer::First(list[0]);
     }
     memory.cursor = first;
     memory.com = com;
     memory.slots = slots;
+    memory.reserves = reserves;
     Granted { answer, memory }
 }

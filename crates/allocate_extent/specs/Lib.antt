@@ -1,2 +1,2 @@
--- The causes that allocate extent tests before it searches.
+-- The causes that allocate extent tests before it searches, and after.
 pub mod Causes

@@ -2,20 +2,27 @@
 // places of the list.
 ghost use mathlib.Core.Path.{_≡_};
 ghost use mathlib.Core.Bool.{true, cond};
+ghost use Prim.Native.Nat.{_≤_};
+ghost use Rattle.bitmap.specs.Sizes.{maxBlocks};
 ghost use Rattle.bitmap.specs.Bits.{IsBitmap};
 ghost use Rattle.bitmap.specs.Blocks.{isAvailable};
 ghost use Rattle.bitmap.specs.Extents.{nearest, starts};
 ghost use Rattle.model.specs.Calls.AllocateExtent.{allocateExtentAnswer, allocateExtentMemory, allocateExtentList};
 ghost use Rattle.verdicts.specs.Verdicts.{isAccepted, thenCauses};
 ghost use Rattle.extents.specs.Nearest.{CanSearch};
-ghost use Rattle.allocate_extent.specs.Causes.{requestCauses};
+ghost use Rattle.allocate_extent.specs.Causes.{requestCauses, spareCauses};
 use bitmap::Bitmap;
+use counting::count_available;
 use extents::nearest::nearest_extent;
 use extents::take::take_extent;
 use model_types::answer::GrantAnswer;
 use model_types::answer::Granted;
 use model_types::error::Error;
 use model_types::memory::Memory;
+use reserves::change::draw;
+use reserves::sums::leaves_fewer;
+use reserves::sums::others;
+use validity::Numbers;
 use validity::valid;
 use verdicts::ready::open;
 use verdicts::verdict::Verdict;
@@ -49,6 +56,33 @@ fn search<'a>(
     blocks
 }
 
+// After 22, 24. The others' reservations add up to `reserved`; if they have none, no block is counted.
+fn spare<'a>(
+    earlier: Verdict,
+    blocks: u32,
+    sam: &'a [u32; 128],
+    com: &'a [u32; 128],
+    count: u32,
+    reserved: u64,
+) -> Verdict
+    requires { ⌜ IsBitmap (now sam) ⌝ }
+    requires { ⌜ IsBitmap (now «com») ⌝ }
+    requires { ⌜ (isAccepted earlier ≡ true → blocks ≤ maxBlocks) ⌝ }
+    ensures { λ r. ⌜ r ≡ thenCauses earlier (spareCauses blocks (now (sam .entry)) (now («com» .entry)) count reserved) ⌝ }
+{
+    if !earlier.is_accepted() {
+        return earlier;
+    }
+    if reserved == 0 {
+        return Verdict::Accepted;
+    }
+    let available = count_available(sam, com, blocks);
+    Verdict::Accepted.unless(
+        leaves_fewer(available, count, reserved),
+        Error::ReservedForOthers,
+    )
+}
+
 // Gives a slot an extent. Refused, the memory and the list stay.
 pub fn allocate_extent(
     mut memory: Memory,
@@ -66,25 +100,36 @@ pub fn allocate_extent(
     let sam = memory.sam;
     let mut com = memory.com;
     let mut slots = memory.slots;
+    let mut reserves = memory.reserves;
+    let numbers = Numbers {
+        blocks,
+        cursor: first,
+        reserves,
+    };
     let pending = memory.pending;
     let owner = slots[pending.owner()];
-    let sound = valid(blocks, first, &sam.words, &com.words, slots, pending, owner);
+    let sound = valid(numbers, &sam.words, &com.words, slots, pending, owner);
     let at = Bitmap::slot_index(slot);
     let mut own = slots[at];
     let state = own.state;
     let earlier = open(sound, pending, slot, state);
     let request = request(earlier, blocks, count, near, list);
     let start = search(request, &sam.words, &com.words, blocks, count, near);
-    let verdict = request.unless(start == blocks, Error::NoExtent);
+    let found = request.unless(start == blocks, Error::NoExtent);
+    let reserved = others(reserves, at);
+    let verdict = spare(found, blocks, &sam.words, &com.words, count, reserved);
     let mut answer = verdict.grant(0);
     if verdict.is_accepted() {
         take_extent(&mut com.words, &mut own.tam.words, list, start, count);
         slots[at] = own;
+        let drawn = draw(reserves, at, count);
+        reserves = drawn;
         first = Bitmap::wrapped(start + count, blocks);
         answer = GrantAnswer::First(start);
     }
     memory.cursor = first;
     memory.com = com;
     memory.slots = slots;
+    memory.reserves = reserves;
     Granted { answer, memory }
 }

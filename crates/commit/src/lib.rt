@@ -11,6 +11,7 @@ use model_types::answer::Stored;
 use model_types::memory::Memory;
 use model_types::memory::Pending;
 use model_types::memory::Slot;
+use validity::Numbers;
 use validity::valid;
 use verdicts::ready::precommitted;
 
@@ -37,9 +38,15 @@ pub fn commit(mut memory: Memory, slot: u32) -> Stored
     let sam = memory.sam;
     let com = memory.com;
     let mut slots = memory.slots;
+    let reserves = memory.reserves;
+    let numbers = Numbers {
+        blocks,
+        cursor: first,
+        reserves,
+    };
     let mut pending = memory.pending;
     let owner = slots[pending.owner()];
-    let sound = valid(blocks, first, &sam.words, &com.words, slots, pending, owner);
+    let sound = valid(numbers, &sam.words, &com.words, slots, pending, owner);
     let at = Bitmap::slot_index(slot);
     let own = slots[at];
     let state = own.state;

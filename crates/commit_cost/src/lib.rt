@@ -15,29 +15,37 @@ use model_types::answer::StoresAnswer;
 use model_types::error::Error;
 use model_types::memory::Memory;
 use model_types::memory::Pending;
+use reserves::sums::leaves_fewer;
+use reserves::sums::others;
+use validity::Numbers;
 use validity::valid;
 use verdicts::ready::open;
 use verdicts::verdict::Verdict;
 
-// After the causes of an open slot, 15 for a count above 64, and 17.
+// After the causes of an open slot, 15 for a count above 64, 17 and 24. The others' reservations add up to `reserved`.
 fn enough<'a>(
     earlier: Verdict,
     blocks: u32,
     sam: &'a [u32; 128],
     com: &'a [u32; 128],
     count: u32,
+    reserved: u64,
 ) -> Verdict
     requires { ⌜ IsBitmap (now sam) ⌝ }
     requires { ⌜ IsBitmap (now «com») ⌝ }
     requires { ⌜ (isAccepted earlier ≡ true → blocks ≤ maxBlocks) ⌝ }
-    ensures { λ r. ⌜ r ≡ thenCauses earlier (costCauses blocks (now (sam .entry)) (now («com» .entry)) count) ⌝ }
+    ensures { λ r. ⌜ r ≡ thenCauses earlier (costCauses blocks (now (sam .entry)) (now («com» .entry)) count reserved) ⌝ }
 {
     if !earlier.is_accepted() {
         return earlier;
     }
-    let few = count_available(sam, com, blocks) < count;
+    let available = count_available(sam, com, blocks);
     let counted = Verdict::Accepted.unless(Bitmap::COUNT < count, Error::CountRange);
-    counted.unless(few, Error::TooFewAvailable)
+    let enough = counted.unless(available < count, Error::TooFewAvailable);
+    enough.unless(
+        leaves_fewer(available, count, reserved),
+        Error::ReservedForOthers,
+    )
 }
 
 // The most stores of a commit with so many blocks touched: it changes no more words than blocks, and no more than there are.
@@ -65,14 +73,21 @@ pub fn commit_cost(memory: Memory, slot: u32, count: u32) -> Stored
     let sam = memory.sam;
     let com = memory.com;
     let slots = memory.slots;
+    let reserves = memory.reserves;
+    let numbers = Numbers {
+        blocks,
+        cursor: first,
+        reserves,
+    };
     let pending = memory.pending;
     let owner = slots[pending.owner()];
-    let sound = valid(blocks, first, &sam.words, &com.words, slots, pending, owner);
+    let sound = valid(numbers, &sam.words, &com.words, slots, pending, owner);
     let at = Bitmap::slot_index(slot);
     let own = slots[at];
     let state = own.state;
     let earlier = open(sound, pending, slot, state);
-    let verdict = enough(earlier, blocks, &sam.words, &com.words, count);
+    let reserved = others(reserves, at);
+    let verdict = enough(earlier, blocks, &sam.words, &com.words, count, reserved);
     let mut answer = verdict.stores(0);
     if verdict.is_accepted() {
         let words = Bitmap::words_for(blocks);

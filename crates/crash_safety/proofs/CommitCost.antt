@@ -1,9 +1,9 @@
 -- A commit cost holds, whatever calls come in between: each call touches for a slot no more than it is told to.
 use Prim.Native.Nat.{ℕ, _+_, _≤_, _<_}
 use native.Mathlib.Omega.{arith}
-use mathlib.Core.Path.{_≡_, refl, sym, ap, _∙_, subst}
+use mathlib.Core.Path.{_≡_, refl, sym, _∙_, subst}
 use mathlib.Core.Logic.{inl, ⊎-elim}
-use mathlib.Core.Bool.{Bool, true, false, cond, false≢true}
+use mathlib.Core.Bool.{Bool, true, false, cond}
 use mathlib.Core.Option.{Option, none, some}
 use mathlib.Core.List.{List, [], _∷_}
 use lib.ListN.{length, getD}
@@ -18,7 +18,7 @@ use Rattle.model_types.specs.Memory.{slotAt, withPending}
 use Rattle.model.specs.First.{unlessRefused}
 use Rattle.model.specs.Commit.{changedOf, commitDue, committed}
 use Rattle.model.specs.Pending.{storesDone, storesDue, oneMoreDone, finished}
-use Rattle.model.specs.Valid.{pendingValid, valid}
+use Rattle.model.specs.Valid.{pendingValid}
 use Rattle.model.specs.Calls.Start.{startError, started, startMemory}
 use Rattle.model.specs.Calls.Allocate.{allocateError, firstMet, taking, allocateAnswer, allocateMemory}
 use Rattle.model.specs.Calls.AllocateExtent.{allocateExtentError, nearestExtent, allocateExtentAnswer, allocateExtentMemory}
@@ -31,23 +31,24 @@ use Rattle.model.specs.Rollback.{rolledBack}
 use Rattle.model.specs.Calls.Drop.{dropError, dropMemory}
 use Rattle.model.specs.Calls.Revoke.{revokeError, revokeMemory}
 use Rattle.model.specs.Calls.Storing.{storeError, advanced, storeMemory}
+use Rattle.model.specs.Reserves.{reserving}
+use Rattle.model.specs.Calls.Reserve.{reserveError, reserveMemory}
 use Rattle.model.proofs.Laws.Numbers.{numberOf, done-number, grant-number}
 use Rattle.model.proofs.Laws.Valid.{ValidParts, valid-parts}
 use Rattle.model.proofs.Laws.Pending.{commit-parts, precommitted-active, precommitted-below}
-use Rattle.model.proofs.Laws.Accepted.{Ready, start-accepted, deallocate-accepted, precommit-accepted, CommitAccepted, commit-accepted, RollbackAccepted, drop-rolls-back, revoke-rolls-back, CommitCostAccepted, commit-cost-accepted}
-use Rattle.model.specs.Outcome.{Call, outcome, openCall, startCall, allocateCall, allocateExtentCall, deallocateCall, precommitCall, commitCall, dropCall, revokeCall, storeCall, statusCall, commitCostCall, crashCall}
+use Rattle.model.proofs.Laws.Accepted.{Ready, start-accepted, deallocate-accepted, precommit-accepted, CommitAccepted, commit-accepted, RollbackAccepted, drop-rolls-back, revoke-rolls-back, CommitCostAccepted, commit-cost-accepted, reserve-accepted}
+use Rattle.model.specs.Outcome.{Call, outcome, openCall, startCall, allocateCall, allocateExtentCall, deallocateCall, precommitCall, commitCall, dropCall, revokeCall, storeCall, statusCall, commitCostCall, reserveCall, crashCall}
 use Rattle.crash_safety.specs.World.{World, step, run, begin}
 use Rattle.crash_safety.specs.InOrder.{InUse}
 use Rattle.crash_safety.specs.CommitCost.{touchesFor, touchesIn, SameUse, CommitCostKeptInUse, CommitCostHolds}
 use Rattle.crash_safety.proofs.Invariant.{Invariant}
 use Rattle.crash_safety.proofs.Keeps.{step-keeps, run-keeps, begins-formatted}
-use Rattle.crash_safety.proofs.InOrder.Always.{step-uses, run-in-order}
-use Rattle.crash_safety.proofs.Crash.{zero-invalid}
+use Rattle.crash_safety.proofs.InOrder.Always.{step-uses, valid-uses, run-in-order}
 use Rattle.model.proofs.Laws.TouchedBlocks.{changed-touched, changed-words}
 use Rattle.model.proofs.Laws.Granting.{Grants, allocate-grants, allocate-extent-grants}
 use Rattle.model.proofs.Laws.Answered.{due-answered}
 use Rattle.model.proofs.Laws.CommitCost.{due-within, commit-cost-kept}
-use Rattle.model.proofs.Laws.TouchedBy.{active-touched, Touches, started-touches, taking-touches, freeing-touches, precommitting-touches, rolled-back-touches, pending-touches, committed-touches}
+use Rattle.model.proofs.Laws.TouchedBy.{active-touched, Touches, started-touches, taking-touches, freeing-touches, precommitting-touches, rolled-back-touches, reserving-touches, pending-touches, committed-touches}
 
 -- ---- a call that is refused or not
 
@@ -96,6 +97,12 @@ module _ (memory : Memory) (s : ℕ) (eight : length (memory .slots) ≡ slotCou
   revoke-touches : (t : ℕ) → Touches memory (revokeMemory memory t) s 0
   unfolding revokeMemory
   revoke-touches t = rolling-touches t (revokeError memory t) (revoke-rolls-back memory t)
+
+  reserve-touches : (t reservation : ℕ) → Touches memory (reserveMemory memory t reservation) s 0
+  unfolding reserveMemory
+  reserve-touches t reservation =
+      never-touches memory (reserving memory t reservation) s (reserveError memory t reservation)
+      (λ e. reserving-touches memory t s (there t (reserve-accepted memory t reservation e .ready)) reservation)
 
   -- a call that grants blocks
   grant-touches : (t count : ℕ) (blocks : List ℕ) (error : Option Error) → (error ≡ none → Grants memory t count blocks)
@@ -203,6 +210,8 @@ module _ (s : ℕ) (w : World) (i : Invariant w) (c : InUse w) where
   step-touches storeCall no-open no-crash = none-told storeCall refl (store-touches (w .memory) s eight parts (w .disk))
   step-touches statusCall no-open no-crash = none-told statusCall refl (record { few = omega arith; volume = refl })
   step-touches (commitCostCall t count) no-open no-crash = none-told (commitCostCall t count) refl (record { few = omega arith; volume = refl })
+  step-touches (reserveCall t reservation) no-open no-crash =
+      none-told (reserveCall t reservation) refl (reserve-touches (w .memory) s eight parts t reservation)
 
 -- the world after them is in use, and all of them together touch no more
 pub record Ran (s : ℕ) (w after : World) (more : ℕ) : Type 0 where
@@ -272,7 +281,6 @@ commit-cost-holds blocks some-blocks few disk size calls s count cost answered l
     let cost-told = due-answered (commitCostError (w .memory) s count) (commitCost (w .memory) s count) cost answered in
     let commit-told = due-answered (commitError (run later w .memory) s) (commitDue (run later w .memory) s) stores commits in
     let a = commit-cost-accepted (w .memory) s count (cost-told .0) in
-    let used : InUse w =
-    ⊎-elim (λ e. absurd (false≢true (sym zero-invalid ∙ sym (ap valid e) ∙ a .ready .is-valid))) (λ u. u) (run-in-order calls first begins (inl refl)) in
+    let used = valid-uses w (run-in-order calls first begins (inl refl)) (a .ready .is-valid) in
     rw (← cost-told .1, ← commit-told .1)
     (later-within s count w (run-keeps calls first begins) used a later same within (commit-accepted (run later w .memory) s (commit-told .0)))

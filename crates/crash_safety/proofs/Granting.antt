@@ -141,7 +141,7 @@ pub grant-keeps : (w : World) (s : ℕ) (blocks : List ℕ)
     → Invariant (worldOf (taking (w .memory) s blocks) (w .disk) (takes (w .ledger) s blocks))
 unfolding taking takes
 grant-keeps w s blocks i ready active all =
-    moving w s i ready (afterLast (w .memory .blocks) (w .memory .cursor) blocks) new (volumeBitmap (w .memory) (λ b. member b blocks || comBit (w .memory) b))
+    moving w s i ready (afterLast (w .memory .blocks) (w .memory .cursor) blocks) _ new (volumeBitmap (w .memory) (λ b. member b blocks || comBit (w .memory) b))
     (withTaken (setsOf (w .ledger) s) (setsOf (w .ledger) s .taken ++ blocks))
     (taken-tie (samBit (w .memory)) slot new (setsOf (w .ledger) s) blocks active refl
     (bitmapOf-bits (w .memory .blocks) (λ b. member b blocks || tamBit slot b) (parts .few-blocks) (none-from (w .memory) s blocks all parts))

@@ -27,15 +27,18 @@ use Rattle.model.specs.Calls.Revoke.{revokeError, revokeAnswer, revokeMemory}
 use Rattle.model.specs.Calls.Start.{startError, started, startAnswer, startMemory}
 use Rattle.model.specs.Calls.Status.{statusError, counts as statusCounts, statusAnswer, allocated, activeSlots}
 use Rattle.model.specs.Calls.Storing.{storeError, stillDue, advanced, nextStored, storeAnswer, storeMemory, storeDisk}
-use Rattle.model.specs.Causes.{memoryInvalid, diskLengthWrong, diskBlocksWrong, diskBitmapWrong, diskLogWrong, diskMismatched, blocksOutOfRange, nothingPending, workPending, slotOutOfRange, slotActive, slotInactive, slotPrecommitted, slotNotPrecommitted, countOutOfRange, countTooLarge, listShort, available, tooFewAvailable, blockOutOfRange, blockFree, blockFreeing, extentStarts, noExtent}
+use Rattle.model.specs.Calls.Reserve.{reserveError, reserveAnswer, reserveMemory}
+use Rattle.model.specs.Reserves.{totalReserved, othersReserved, drawing, putBack, usedUp, reserving}
+use Rattle.model.specs.Available.{available}
+use Rattle.model.specs.Causes.{memoryInvalid, diskLengthWrong, diskBlocksWrong, diskBitmapWrong, diskLogWrong, diskMismatched, blocksOutOfRange, nothingPending, workPending, slotOutOfRange, slotActive, slotInactive, slotPrecommitted, slotNotPrecommitted, countOutOfRange, countTooLarge, listShort, tooFewAvailable, blockOutOfRange, blockFree, blockFreeing, extentStarts, noExtent, overReserved, reservedForOthers}
 use Rattle.model_types.specs.Pending.{isNothing}
 use Rattle.model.specs.Pending.{storesDone, storesDue, oneMoreDone, finished}
 use Rattle.model.specs.Commit.{committedSam, entriesOf, changedOf, commitDue, refreshed, committed}
 use Rattle.model.specs.Disk.{lengthIn, entriesIn, logEntries, entriesValid, logValid, durable, dueStores, entriesAgree, recoveryMatches, diskMatches}
 use Rattle.model.specs.First.{firstOr, first, unlessRefused}
-use Rattle.model.specs.Outcome.{outcome, Call, Outcome, openCall, startCall, allocateCall, allocateExtentCall, deallocateCall, precommitCall, commitCall, dropCall, revokeCall, storeCall, statusCall, commitCostCall, crashCall}
+use Rattle.model.specs.Outcome.{outcome, Call, Outcome, openCall, startCall, allocateCall, allocateExtentCall, deallocateCall, precommitCall, commitCall, dropCall, revokeCall, storeCall, statusCall, commitCostCall, reserveCall, crashCall}
 use Rattle.model.specs.Stores.{writes, changesFrom, logStores, checkpointWith, journalWith, checkpointStores, commitStores}
-use Rattle.model.specs.Valid.{touched, sameWords, allSlots, slotValid, touches, touchesAgree, isQuiet, pendingValid, valid}
+use Rattle.model.specs.Valid.{touched, sameWords, allSlots, slotValid, touches, touchesAgree, took, takenBlocks, reservationsFit, drawnFit, isQuiet, pendingValid, valid}
 use Rattle.crash_safety.specs.Ledger.{emptied, hasWord, wordsFrom, setsWords, without, takes, frees, counts, commits, stores, entered, enter, enterAll, Ledger, Sets, noSets, ledgerOf, setsOf, holders, takers}
 use Rattle.crash_safety.specs.World.{events, step, run, World, begin}
 use Rattle.model.specs.Sizes.{diskWords}
@@ -175,6 +178,40 @@ carried =
     ∷ allocateCall 5 3 list
     ∷ []
 
+-- three of the four blocks are reserved for slot 1, so two can't be for slot 2, which gets one block and not two; slot 1 takes its three
+-- and drops them, and slot 2 is still refused a second one, of an extent or not, and its cost
+setAside : List Call
+setAside =
+    openCall
+    ∷ reserveCall 1 3
+    ∷ reserveCall 2 2
+    ∷ startCall 2
+    ∷ allocateCall 2 2 list
+    ∷ allocateCall 2 1 list
+    ∷ startCall 1
+    ∷ reserveCall 1 1
+    ∷ allocateCall 1 3 list
+    ∷ dropCall 1
+    ∷ allocateCall 2 1 list
+    ∷ allocateExtentCall 2 1 3 list
+    ∷ commitCostCall 2 1
+    ∷ []
+
+-- slot 1 takes two of its three and commits: one stays reserved for it, so of the two available blocks one can be for slot 2, and not
+-- both; after a crash both can
+lowered : List Call
+lowered =
+    openCall
+    ∷ reserveCall 1 3
+    ∷ grow 1 2
+    ++ storeCalls 5
+    ++ reserveCall 2 2
+    ∷ reserveCall 2 1
+    ∷ crashCall
+    ∷ openCall
+    ∷ reserveCall 2 2
+    ∷ []
+
 -- a crash inside a recovery, after one of its two stores; the next open starts it again
 crashedTwice : List Call
 crashedTwice = afterPoint ++ crashCall ∷ openCall ∷ storeCalls 1 ++ crashCall ∷ statusCall ∷ openCall ∷ storeCalls 2 ++ statusCall ∷ []
@@ -193,6 +230,8 @@ histories =
     ++ after (1 ∷ 7 ∷ []) spared
     ++ after (1 ∷ 7 ∷ []) revoked
     ++ after (5 ∷ []) carried
+    ++ after (1 ∷ 2 ∷ []) setAside
+    ++ after (1 ∷ []) lowered
     ++ after (1 ∷ []) crashedTwice
 
 pub expected : List (List ℕ)
@@ -293,6 +332,22 @@ expected =
     ∷ []
     ∷ (0 ∷ 1 ∷ 2 ∷ [])
     ∷ []
+    -- reserved for slot 1: 23 for slot 2, and 24; 11 once slot 1 is open
+    ∷ (0 ∷ 0 ∷ 23 ∷ 0 ∷ 24 ∷ 0 ∷ 0 ∷ 11 ∷ 0 ∷ 0 ∷ 24 ∷ 24 ∷ 24 ∷ [])
+    ∷ (0 ∷ 0 ∷ 0 ∷ 0 ∷ 0 ∷ 0 ∷ 0 ∷ 0 ∷ 1 ∷ 0 ∷ 0 ∷ 0 ∷ 0 ∷ [])
+    ∷ []
+    ∷ []
+    ∷ []
+    ∷ []
+    ∷ (0 ∷ [])
+    ∷ []
+    -- lowered by a commit; wiped by a crash
+    ∷ (replicate 11 0 ++ (23 ∷ 0 ∷ 0 ∷ 0 ∷ 0 ∷ []))
+    ∷ (0 ∷ 0 ∷ 0 ∷ 0 ∷ 0 ∷ 5 ∷ 4 ∷ 3 ∷ 2 ∷ 1 ∷ 0 ∷ 0 ∷ 0 ∷ 0 ∷ 0 ∷ 0 ∷ [])
+    ∷ (0 ∷ 1 ∷ [])
+    ∷ (0 ∷ 1 ∷ [])
+    ∷ []
+    ∷ []
     -- crashed inside a recovery; status is refused until the next open
     ∷ (replicate 12 0 ++ (1 ∷ 0 ∷ 0 ∷ 0 ∷ 0 ∷ []))
     ∷ (0 ∷ 0 ∷ 0 ∷ 0 ∷ 5 ∷ 4 ∷ 3 ∷ 2 ∷ 0 ∷ 2 ∷ 1 ∷ 0 ∷ 0 ∷ 2 ∷ 1 ∷ 0 ∷ 2 ∷ [])
@@ -303,7 +358,7 @@ expected =
     ∷ []
 
 computed : sameRows histories expected ≡ true
-unfolding sameRows expected histories after shown slotSets follow beforePoint afterPoint retaken reopened borrowed dropped adjoined spared revoked carried crashedTwice grow list storeCalls xor isSet bit wordOf wordsOf bitmapOf noBitsFrom scan from allocatedBlocks isAvailable availableBlocks member allBelow majority done granted due counted commitCostError touchedBlocks costFor commitCost commitCostAnswer allocateError roundFrom wrapped afterLast met firstMet taking allocateAnswer allocateMemory allocateList adjoining isStart starts distance nearer nearestOf nearest extentStarts noExtent allocateExtentError nearestExtent allocateExtentAnswer allocateExtentMemory allocateExtentList commitError committing commitAnswer commitMemory deallocateError freeing deallocateAnswer deallocateMemory formatError formatted formatAnswer formatDisk openError recoveryDue recoveryPending opened openAnswer openMemory precommitError precommitting precommitAnswer precommitMemory dropError dropAnswer dropMemory revokeError revokeAnswer revokeMemory rolledBackCom rolledBack startError started startAnswer startMemory statusError statusCounts statusAnswer allocated activeSlots storeError stillDue advanced nextStored storeAnswer storeMemory storeDisk memoryInvalid diskLengthWrong diskBlocksWrong diskBitmapWrong diskLogWrong diskMismatched blocksOutOfRange isNothing nothingPending workPending slotOutOfRange slotActive slotInactive slotPrecommitted slotNotPrecommitted countOutOfRange countTooLarge listShort available tooFewAvailable blockOutOfRange blockFree blockFreeing committedSam entriesOf changedOf commitDue refreshed committed lengthIn entriesIn logEntries entriesValid logValid durable dueStores entriesAgree recoveryMatches diskMatches firstOr first unlessRefused touched outcome storesDone storesDue oneMoreDone finished writes changesFrom logStores checkpointWith journalWith checkpointStores commitStores blocksInRange countInRange slotInRange sameWords allSlots slotValid touches touchesAgree isQuiet pendingValid valid emptied hasWord wordsFrom setsWords without takes frees counts commits stores entered enter enterAll events step run
+unfolding sameRows expected histories after shown slotSets follow beforePoint afterPoint retaken reopened borrowed dropped adjoined spared revoked carried setAside lowered crashedTwice grow list storeCalls xor isSet bit wordOf wordsOf bitmapOf noBitsFrom scan from allocatedBlocks isAvailable availableBlocks member allBelow majority done granted due counted commitCostError touchedBlocks costFor commitCost commitCostAnswer allocateError roundFrom wrapped afterLast met firstMet taking allocateAnswer allocateMemory allocateList adjoining isStart starts distance nearer nearestOf nearest extentStarts noExtent allocateExtentError nearestExtent allocateExtentAnswer allocateExtentMemory allocateExtentList commitError committing commitAnswer commitMemory deallocateError freeing deallocateAnswer deallocateMemory formatError formatted formatAnswer formatDisk openError recoveryDue recoveryPending opened openAnswer openMemory precommitError precommitting precommitAnswer precommitMemory dropError dropAnswer dropMemory revokeError revokeAnswer revokeMemory rolledBackCom rolledBack startError started startAnswer startMemory statusError statusCounts statusAnswer allocated activeSlots storeError stillDue advanced nextStored storeAnswer storeMemory storeDisk reserveError reserveAnswer reserveMemory totalReserved othersReserved drawing putBack usedUp reserving memoryInvalid diskLengthWrong diskBlocksWrong diskBitmapWrong diskLogWrong diskMismatched blocksOutOfRange isNothing nothingPending workPending slotOutOfRange slotActive slotInactive slotPrecommitted slotNotPrecommitted countOutOfRange countTooLarge listShort available tooFewAvailable blockOutOfRange blockFree blockFreeing overReserved reservedForOthers committedSam entriesOf changedOf commitDue refreshed committed lengthIn entriesIn logEntries entriesValid logValid durable dueStores entriesAgree recoveryMatches diskMatches firstOr first unlessRefused touched outcome storesDone storesDue oneMoreDone finished writes changesFrom logStores checkpointWith journalWith checkpointStores commitStores blocksInRange countInRange slotInRange sameWords allSlots slotValid touches touchesAgree took takenBlocks reservationsFit drawnFit isQuiet pendingValid valid emptied hasWord wordsFrom setsWords without takes frees counts commits stores entered enter enterAll events step run
 computed = refl
 
 pub worked : histories ≡ expected

@@ -17,7 +17,7 @@ use Rattle.model.specs.Disk.{durable}
 use Rattle.crash_safety.specs.Ledger.{holders}
 use Rattle.model.specs.Calls.Format.{formatted, formatDisk}
 use Rattle.model.specs.Calls.Opening.{openError}
-use Rattle.model.specs.Outcome.{Call, openCall, startCall, allocateCall, allocateExtentCall, deallocateCall, precommitCall, commitCall, dropCall, revokeCall, storeCall, statusCall, commitCostCall, crashCall}
+use Rattle.model.specs.Outcome.{Call, openCall, startCall, allocateCall, allocateExtentCall, deallocateCall, precommitCall, commitCall, dropCall, revokeCall, storeCall, statusCall, commitCostCall, reserveCall, crashCall}
 use Rattle.crash_safety.specs.World.{World, begin, step, run}
 use Rattle.model.proofs.Laws.Accepted.{accepted-format}
 use Rattle.model.proofs.Laws.DiskParts.{blocks-inRange, none-told, diskOf-quiet, quiet-opens}
@@ -32,6 +32,7 @@ use Rattle.crash_safety.proofs.Deallocate.{deallocate-keeps}
 use Rattle.crash_safety.proofs.Allocate.{allocate-keeps, allocate-extent-keeps}
 use Rattle.crash_safety.proofs.Commit.{commit-keeps}
 use Rattle.crash_safety.proofs.Store.{store-keeps}
+use Rattle.crash_safety.proofs.Reserve.{reserve-keeps}
 use Rattle.crash_safety.proofs.Crash.{zero-invalid, crash-keeps, open-keeps, status-keeps, commit-cost-keeps}
 
 pub step-keeps : (call : Call) (w : World) → Invariant w → Invariant (step call w)
@@ -47,6 +48,7 @@ step-keeps (revokeCall s) w i = revoke-keeps w s i
 step-keeps storeCall w i = store-keeps w i
 step-keeps statusCall w i = status-keeps w i
 step-keeps (commitCostCall s count) w i = commit-cost-keeps w s count i
+step-keeps (reserveCall s reservation) w i = reserve-keeps w s reservation i
 step-keeps crashCall w i = crash-keeps w i
 
 pub run-keeps : (calls : List Call) (w : World) → Invariant w → Invariant (run calls w)

@@ -10,6 +10,7 @@ pub mod Rollback
 pub mod Deallocate
 pub mod Granting
 pub mod Allocate
+pub mod Reserve
 pub mod Count
 pub mod Committed
 pub mod Commit
@@ -27,5 +28,7 @@ pub mod Recovering
 pub mod Theorem
 pub mod CommitCost
 pub mod RevokeAlone
+pub mod Reservations
+pub mod PutBack
 pub mod Consequences
 pub mod Histories

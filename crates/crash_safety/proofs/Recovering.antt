@@ -6,7 +6,7 @@ use mathlib.Core.Option.{Option, none}
 use mathlib.Core.List.{List, [], _∷_}
 use lib.ListN.{replicate}
 use lib.Dec.{eqb}
-use Rattle.model.specs.Outcome.{Call, Outcome, outcome, openCall, startCall, allocateCall, allocateExtentCall, deallocateCall, precommitCall, commitCall, dropCall, revokeCall, storeCall, statusCall, commitCostCall, crashCall}
+use Rattle.model.specs.Outcome.{Call, Outcome, outcome, openCall, startCall, allocateCall, allocateExtentCall, deallocateCall, precommitCall, commitCall, dropCall, revokeCall, storeCall, statusCall, commitCostCall, reserveCall, crashCall}
 use Rattle.crash_safety.specs.Ledger.{Ledger, Counting, emptied, enter, entered, enterAll, stores, asking}
 use Rattle.crash_safety.specs.World.{World, eventOf, events, step, run}
 use Rattle.crash_safety.proofs.Refused.{asked-nothing}
@@ -26,6 +26,7 @@ Recovers (precommitCall s) = ⊥
 Recovers (commitCall s) = ⊥
 Recovers (dropCall s) = ⊥
 Recovers (revokeCall s) = ⊥
+Recovers (reserveCall s reservation) = ⊥
 
 abbrev pub Recovering : List Call → Type 0
 Recovering [] = Unit {0}
@@ -90,6 +91,7 @@ step-settled (precommitCall s) w allocated r t = absurd r
 step-settled (commitCall s) w allocated r t = absurd r
 step-settled (dropCall s) w allocated r t = absurd r
 step-settled (revokeCall s) w allocated r t = absurd r
+step-settled (reserveCall s reservation) w allocated r t = absurd r
 
 pub run-settled : (calls : List Call) (w : World) (allocated : List ℕ) → Recovering calls → Settled allocated (w .ledger)
     → Settled allocated (run calls w .ledger)

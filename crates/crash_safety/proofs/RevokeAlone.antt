@@ -13,11 +13,12 @@ use Rattle.bitmap.specs.declared.Bitmap.{Bitmap}
 use Rattle.model_types.specs.declared.error.Error.{Error}
 use Rattle.model_types.specs.declared.memory.Memory.{Memory}
 use Rattle.model_types.specs.declared.memory.Slot.{Slot}
+use Rattle.model_types.specs.declared.memory.Reserve.{Reserve}
 use Rattle.model_types.specs.declared.memory.SlotState.{SlotState}
 use Rattle.model_types.specs.declared.memory.SlotState.the-variants.{Precommitted}
 use Rattle.model_types.specs.declared.memory.Pending.{Pending}
 use Rattle.model_types.specs.declared.memory.Pending.the-variants.{Nothing, Commit, Recovery}
-use Rattle.model_types.specs.Memory.{slotAt, isActive, isPrecommitted, withCursor, withCom, withSlot, withPending}
+use Rattle.model_types.specs.Memory.{slotAt, isActive, isPrecommitted, withCursor, withCom, withSlot, withReserves, withPending}
 use Rattle.model.specs.First.{unlessRefused}
 use Rattle.model.specs.Commit.{committedSam, changedOf, commitDue, refreshed, committed}
 use Rattle.model.specs.Pending.{storesDone, storesDue, oneMoreDone, finished}
@@ -31,8 +32,10 @@ use Rattle.model.specs.Rollback.{rolledBack}
 use Rattle.model.specs.Calls.Drop.{dropMemory, dropAnswer}
 use Rattle.model.specs.Calls.Revoke.{revokeMemory, revokeAnswer}
 use Rattle.model.specs.Calls.Storing.{advanced, storeMemory, storeDisk, storeAnswer}
+use Rattle.model.specs.Reserves.{reserving}
+use Rattle.model.specs.Calls.Reserve.{reserveMemory, reserveAnswer}
 use Rattle.model.specs.Calls.Format.{formatDisk}
-use Rattle.model.specs.Outcome.{Call, Outcome, outcome, openCall, startCall, allocateCall, allocateExtentCall, deallocateCall, precommitCall, commitCall, dropCall, revokeCall, storeCall, statusCall, commitCostCall, crashCall}
+use Rattle.model.specs.Outcome.{Call, Outcome, outcome, openCall, startCall, allocateCall, allocateExtentCall, deallocateCall, precommitCall, commitCall, dropCall, revokeCall, storeCall, statusCall, commitCostCall, reserveCall, crashCall}
 use Rattle.model.proofs.Laws.Numbers.{numberOf, done-number, grant-number, stores-number}
 use Rattle.model.proofs.Laws.Accepted.{start-accepted, allocate-accepted, allocate-extent-accepted, deallocate-accepted, precommit-accepted, drop-accepted, store-accepted}
 use Rattle.model.proofs.Laws.Fields.{slot-other}
@@ -103,14 +106,20 @@ module _ (s : ℕ) (sets : Sets) (w : World) (waits : Waiting s sets w) where
     abbrev Waits : Memory → Type 0
     Waits memory = Waiting s sets (worldOf memory disk ledger)
 
-    -- another slot changes, COM and the cursor
-    changed-waits : (t : ℕ) → (s ≡ t → ⊥) → (cursor : ℕ) (slot : Slot) («com» : Bitmap) → Waits (withCursor (withSlot (withCom (w .memory) «com») t slot) cursor)
-    changed-waits t other cursor slot «com» =
+    -- another slot changes, COM, the cursor and what is reserved
+    changed-waits : (t : ℕ) → (s ≡ t → ⊥) → (cursor : ℕ) (slot : Slot) («com» : Bitmap) (reserves : List Reserve)
+        → Waits (withReserves (withCursor (withSlot (withCom (w .memory) «com») t slot) cursor) reserves)
+    changed-waits t other cursor slot «com» reserves =
         record {
           precommitted = ap (λ (x : Slot). x .state) (slot-other (withCom (w .memory) «com») t slot s other) ∙ waits .precommitted;
           not-committing = waits .not-committing;
           same-sets = same ∙ waits .same-sets;
         }
+
+    -- that alone
+    reserved-waits : (reserves : List Reserve) → Waits (withReserves (w .memory) reserves)
+    reserved-waits reserves =
+        record { precommitted = waits .precommitted; not-committing = waits .not-committing; same-sets = same ∙ waits .same-sets }
 
     -- other work is pending
     pending-waits : (pending : Pending) → Elsewhere s pending → Waits (withPending (w .memory) pending)
@@ -143,42 +152,45 @@ module _ (s : ℕ) (sets : Sets) (w : World) (waits : Waiting s sets w) where
         either Waits (eqb (done + 1) due) (committed-waits t (λ e. elsewhere done due (cc)))
         (pending-waits (Commit t (done + 1) due) (λ _ _ e. elsewhere done due (cc)))
 
-  -- an accepted call of another slot changes that slot, COM, the cursor and that slot's sets
-  call-waits : (t : ℕ) (error : Option Error) (cursor : ℕ) (slot : Slot) («com» : Bitmap) (event : Event) → event .answer ≡ numberOf error
+  -- an accepted call of another slot changes that slot, COM, the cursor, what is reserved and that slot's sets
+  call-waits : (t : ℕ) (error : Option Error) (cursor : ℕ) (slot : Slot) («com» : Bitmap) (reserves : List Reserve) (event : Event) → event .answer ≡ numberOf error
       → ((s ≡ t → ⊥) → SameSets (w .ledger) s (alters event (w .ledger)))
       → (error ≡ none → s ≡ t → ⊥)
-      → Waiting s sets (worldOf (unlessRefused error (withCursor (withSlot (withCom (w .memory) «com») t slot) cursor) (w .memory)) (w .disk) (enter event (w .ledger)))
-  call-waits t error cursor slot «com» event number same other =
+      → Waiting s sets (worldOf
+      (unlessRefused error (withReserves (withCursor (withSlot (withCom (w .memory) «com») t slot) cursor) reserves) (w .memory))
+      (w .disk)
+      (enter event (w .ledger)))
+  call-waits t error cursor slot «com» reserves event number same other =
       memory-keeps (Waiting s sets) w error _ event number waits
-      (λ e. changed-waits (w .disk) (alters event (w .ledger)) (same (other e)) t (other e) cursor slot «com»)
+      (λ e. changed-waits (w .disk) (alters event (w .ledger)) (same (other e)) t (other e) cursor slot «com» reserves)
 
   -- a question
   asked-waits : (t : ℕ) (after : Outcome) → Waiting s sets (worldOf (w .memory) (w .disk) (enterAll (eventOf asking t 0 after ∷ []) (w .ledger)))
   asked-waits t after = rw (asked-nothing t after (w .ledger)) waits
 
   step-waits : Invariant w → (call : Call) → Spares s call → Waiting s sets (step call w)
-  unfolding step events enterAll outcome entered startMemory startAnswer started allocateMemory allocateAnswer allocateExtentMemory allocateExtentAnswer taking takes deallocateMemory deallocateAnswer freeing frees precommitMemory precommitAnswer precommitting commitMemory commitAnswer dropMemory dropAnswer revokeMemory revokeAnswer rolledBack storeMemory storeDisk storeAnswer
+  unfolding step events enterAll outcome entered startMemory startAnswer started allocateMemory allocateAnswer allocateExtentMemory allocateExtentAnswer taking takes deallocateMemory deallocateAnswer freeing frees precommitMemory precommitAnswer precommitting commitMemory commitAnswer dropMemory dropAnswer revokeMemory revokeAnswer rolledBack storeMemory storeDisk storeAnswer reserveMemory reserveAnswer reserving
   step-waits i openCall spares = absurd (spares .no-open refl)
   step-waits i crashCall spares = absurd (spares .no-crash refl)
   step-waits i (startCall t) spares =
-      call-waits t _ _ _ (w .memory .com) _ (done-number _) (λ _. refl) (λ e. another isActive refl t (start-accepted (w .memory) t e .idle))
+      call-waits t _ _ _ (w .memory .com) _ _ (done-number _) (λ _. refl) (λ e. another isActive refl t (start-accepted (w .memory) t e .idle))
   step-waits i (allocateCall t count list) spares =
-      call-waits t _ _ _ _ _ (grant-number _ _) (set-same (w .ledger) s t _)
+      call-waits t _ _ _ _ _ _ (grant-number _ _) (set-same (w .ledger) s t _)
       (λ e. another isPrecommitted refl t (allocate-accepted (w .memory) t count list e .not-precommitted))
   step-waits i (allocateExtentCall t count near list) spares =
-      call-waits t _ _ _ _ _ (grant-number _ _) (set-same (w .ledger) s t _)
+      call-waits t _ _ _ _ _ _ (grant-number _ _) (set-same (w .ledger) s t _)
       (λ e. another isPrecommitted refl t (allocate-extent-accepted (w .memory) t count near list e .not-precommitted))
   step-waits i (deallocateCall t block) spares =
-      call-waits t _ _ _ _ _ (done-number _) (set-same (w .ledger) s t _)
+      call-waits t _ _ _ _ _ _ (done-number _) (set-same (w .ledger) s t _)
       (λ e. another isPrecommitted refl t (deallocate-accepted (w .memory) t block e .not-precommitted))
   step-waits i (precommitCall t) spares =
-      call-waits t _ _ _ (w .memory .com) _ (done-number _) (λ _. refl)
+      call-waits t _ _ _ (w .memory .com) _ _ (done-number _) (λ _. refl)
       (λ e. another isPrecommitted refl t (precommit-accepted (w .memory) t e .not-precommitted))
   step-waits i (dropCall t) spares =
-      call-waits t _ _ _ _ _ (done-number _) (set-same (w .ledger) s t _)
+      call-waits t _ _ _ _ _ _ (done-number _) (set-same (w .ledger) s t _)
       (λ e. another isPrecommitted refl t (drop-accepted (w .memory) t e .not-precommitted))
   step-waits i (revokeCall t) spares =
-      call-waits t _ _ _ _ _ (done-number _) (set-same (w .ledger) s t _) (λ _ own. spares .no-revoke (ap revokeCall (sym own)))
+      call-waits t _ _ _ _ _ _ (done-number _) (set-same (w .ledger) s t _) (λ _ own. spares .no-revoke (ap revokeCall (sym own)))
   step-waits i (commitCall t) spares =
       memory-keeps (Waiting s sets) w _ _ _ (stores-number _ _) waits
       (λ _. committing-waits _ _ (counts-same (w .ledger) s t) t (λ own. spares .no-commit (ap commitCall (sym own))))
@@ -190,6 +202,8 @@ module _ (s : ℕ) (sets : Sets) (w : World) (waits : Waiting s sets w) where
       advanced-waits _ _ same (w .memory .pending) (waits .not-committing))
   step-waits i statusCall spares = asked-waits 0 (outcome statusCall (w .memory) (w .disk))
   step-waits i (commitCostCall t count) spares = asked-waits t (outcome (commitCostCall t count) (w .memory) (w .disk))
+  step-waits i (reserveCall t reservation) spares =
+      memory-keeps (Waiting s sets) w _ _ _ (done-number _) waits (λ _. reserved-waits (w .disk) (w .ledger) refl _)
 
 -- ---- a list of calls
 

@@ -21,7 +21,7 @@ use Rattle.crash_safety.specs.Ledger.{rolling, enter, enterAll, noSets, 
 use Rattle.crash_safety.specs.World.{World, worldOf, events, step}
 use Rattle.crash_safety.proofs.Invariant.{Tied, Invariant}
 use Rattle.crash_safety.proofs.Refused.{memory-keeps}
-use Rattle.crash_safety.proofs.Touching.{sets-there, touching, holders-set}
+use Rattle.crash_safety.proofs.Touching.{sets-there, moving, holders-set}
 
 idle-tie : (sam : ℕ → Bool) → Tied sam idleSlot noSets
 unfolding member
@@ -44,7 +44,7 @@ rolling-keeps w s error accepted i =
     memory-keeps Invariant w error (rolledBack (w .memory) s) _ (done-number error) i
     (λ e.
     let a = accepted e in
-    touching w s i (a .ready) idleSlot (rolledBackCom (w .memory) s) noSets (idle-tie (samBit (w .memory)))
+    moving w s i (a .ready) (w .memory .cursor) _ idleSlot (rolledBackCom (w .memory) s) noSets (idle-tie (samBit (w .memory)))
     (λ b. fewer (w .ledger) s b (sets-there w s i (a .ready)) (i .one-holder b)))
 
 pub drop-keeps : (w : World) (s : ℕ) → Invariant w → Invariant (step (dropCall s) w)

@@ -1,5 +1,5 @@
--- What start, allocate, deallocate, precommit, drop and revoke have in common: one slot changes, COM and, with a grant, the cursor;
--- the slot's sets in the ledger go with it.
+-- What start, allocate, deallocate, precommit, drop and revoke have in common: one slot changes, COM and, with a grant, the cursor,
+-- and what is reserved; the slot's sets in the ledger go with it.
 use Prim.Native.Nat.{ℕ, _+_, _≤_, _<_}
 use native.Mathlib.Decide.{ℕ-discrete}
 use native.Mathlib.Omega.{arith}
@@ -13,7 +13,8 @@ use Rattle.bitmap.specs.declared.Bitmap.{Bitmap}
 use Rattle.bitmap.specs.Blocks.{member}
 use Rattle.model_types.specs.declared.memory.Memory.{Memory}
 use Rattle.model_types.specs.declared.memory.Slot.{Slot}
-use Rattle.model_types.specs.Memory.{withCursor, withCom, withSlot, idleSlot, isActive, samBit, tamBit}
+use Rattle.model_types.specs.declared.memory.Reserve.{Reserve}
+use Rattle.model_types.specs.Memory.{withCursor, withCom, withSlot, withReserves, idleSlot, isActive, samBit, tamBit}
 use Rattle.model.proofs.Laws.Fields.{slots-length}
 use Rattle.model.proofs.Laws.Accepted.{Ready}
 use Rattle.crash_safety.specs.Ledger.{Sets, noSets, Ledger, setsOf, withAllSets, withSets, holders}
@@ -38,7 +39,7 @@ retied sam slots sets s slot own h k new old t = go (ℕ-discrete t s)
     go (no n) = subst₂ (Tied sam) (sym (getD-set-other slots s t slot idleSlot n)) (sym (getD-set-other sets s t own noSets n)) (old t)
 
 module _ (w : World) (s : ℕ) (i : Invariant w) (ready : Ready (w .memory) s) where
-  related : Related (w .memory) (w .ledger)
+  pub related : Related (w .memory) (w .ledger)
   related = i .related (ready .is-valid)
 
   -- nothing is pending
@@ -49,12 +50,12 @@ module _ (w : World) (s : ℕ) (i : Invariant w) (ready : Ready (w .memory) s) w
   pub sets-there : s < length (w .ledger .slots)
   sets-there = omega (arith, i .slots, ready .below)
 
-  -- the cursor may move too
-  pub moving : (cursor : ℕ) (slot : Slot) («com» : Bitmap) (own : Sets)
+  -- the cursor may move too, and the reserves change
+  pub moving : (cursor : ℕ) (reserves : List Reserve) (slot : Slot) («com» : Bitmap) (own : Sets)
       → Tied (samBit (w .memory)) slot own
       → ((b : ℕ) → holders (withSets (w .ledger) s own) b ≤ 1)
-      → Invariant (worldOf (withCursor (withSlot (withCom (w .memory) «com») s slot) cursor) (w .disk) (withSets (w .ledger) s own))
-  moving cursor slot «com» own new holding =
+      → Invariant (worldOf (withReserves (withCursor (withSlot (withCom (w .memory) «com») s slot) cursor) reserves) (w .disk) (withSets (w .ledger) s own))
+  moving cursor reserves slot «com» own new holding =
       same-disk w memory ledger i refl holding (length-set (w .ledger .slots) s own ∙ i .slots)
       (λ _.
       record {
@@ -64,7 +65,7 @@ module _ (w : World) (s : ℕ) (i : Invariant w) (ready : Ready (w .memory) s) w
       })
     where
       memory : Memory
-      memory = withCursor (withSlot (withCom (w .memory) «com») s slot) cursor
+      memory = withReserves (withCursor (withSlot (withCom (w .memory) «com») s slot) cursor) reserves
 
       ledger : Ledger
       ledger = withSets (w .ledger) s own
@@ -80,12 +81,12 @@ module _ (w : World) (s : ℕ) (i : Invariant w) (ready : Ready (w .memory) s) w
             counted = plain .counted;
           }
 
-  -- the same where it stays
+  -- the same where both stay
   pub touching : (slot : Slot) («com» : Bitmap) (own : Sets)
       → Tied (samBit (w .memory)) slot own
       → ((b : ℕ) → holders (withSets (w .ledger) s own) b ≤ 1)
       → Invariant (worldOf (withSlot (withCom (w .memory) «com») s slot) (w .disk) (withSets (w .ledger) s own))
-  touching = moving (w .memory .cursor)
+  touching = moving (w .memory .cursor) (w .memory .reserves)
 
   -- and COM and the ledger too
   pub touching-alone : (slot : Slot)

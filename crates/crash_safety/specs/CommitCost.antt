@@ -9,7 +9,7 @@ use Rattle.model_types.specs.declared.answer.StoresAnswer.{StoresAnswer}
 use Rattle.model.specs.Calls.Committing.{commitAnswer}
 use Rattle.model.specs.Calls.CommitCost.{commitCostAnswer}
 use Rattle.model.specs.CostKept.{CostKept}
-use Rattle.model.specs.Outcome.{Call, outcome, openCall, startCall, allocateCall, allocateExtentCall, deallocateCall, precommitCall, commitCall, dropCall, revokeCall, storeCall, statusCall, commitCostCall, crashCall}
+use Rattle.model.specs.Outcome.{Call, outcome, openCall, startCall, allocateCall, allocateExtentCall, deallocateCall, precommitCall, commitCall, dropCall, revokeCall, storeCall, statusCall, commitCostCall, reserveCall, crashCall}
 use Rattle.crash_safety.specs.World.{World, step, run}
 use Rattle.crash_safety.specs.InOrder.{AfterEvery}
 
@@ -28,6 +28,7 @@ touchesFor s (revokeCall t) = 0
 touchesFor s storeCall = 0
 touchesFor s statusCall = 0
 touchesFor s (commitCostCall t count) = 0
+touchesFor s (reserveCall t reservation) = 0
 touchesFor s crashCall = 0
 
 -- all that the accepted calls of a list touch for it

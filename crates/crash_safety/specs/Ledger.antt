@@ -11,7 +11,7 @@ use Rattle.bitmap.specs.Sizes.{bitmapWords, slotCount}
 use Rattle.bitmap.specs.Blocks.{member}
 
 pub data Kind : Type 0 where
-  opening starting allocating deallocating precommitting committing rolling storing asking crashing : Kind
+  opening starting allocating deallocating precommitting committing rolling storing asking reserving crashing : Kind
 
 -- what the ledger is fed of a call: its kind, slot and block, its answer's number, and the numbers that an allocate, of an
 -- extent or not, lists
@@ -119,7 +119,8 @@ stores ledger (some counting) =
     (commits ledger (counting .slot))
     (withCounting ledger (some (record { slot = counting .slot; number = counting .number + 1 })))
 
--- what an accepted call, or a crash, alters. "start, precommit, status: nothing alters"; a commit cost asks as status does
+-- what an accepted call, or a crash, alters. "start, precommit, status: nothing alters"; a commit cost asks as status does. Nor does a
+-- reserve (document 02, job 7), which touches no block
 unfoldable pub entered : Kind → ℕ → ℕ → List ℕ → Ledger → Ledger
 entered opening s block listed ledger = emptied ledger
 entered starting s block listed ledger = ledger
@@ -130,6 +131,7 @@ entered committing s block listed ledger = counts ledger s
 entered rolling s block listed ledger = withSets ledger s noSets
 entered storing s block listed ledger = stores ledger (ledger .counting)
 entered asking s block listed ledger = ledger
+entered reserving s block listed ledger = ledger
 entered crashing s block listed ledger = emptied ledger
 
 -- "Refused call: nothing alters."

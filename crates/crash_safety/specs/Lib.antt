@@ -5,3 +5,4 @@ pub mod Statement
 pub mod InOrder
 pub mod CommitCost
 pub mod RevokeAlone
+pub mod Reservations

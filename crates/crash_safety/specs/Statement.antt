@@ -2,8 +2,8 @@
 --
 -- The world begins with the disk of an accepted format and a memory of zeros. A call of a list is an open, start, allocate
 -- or allocate extent with a list of any length and content, deallocate, precommit, commit, drop, revoke, store, status, commit
--- cost or crash, with any slot, count and block numbers at all; refused calls are in it too. An open counts as a crash just before
--- it. The ledger is fed each call's kind, slot and block, its answer and the numbers that an allocate, of an extent or not,
+-- cost, reserve or crash, with any slot, count, reservation and block numbers at all; refused calls are in it too. An open counts as
+-- a crash just before it. The ledger is fed each call's kind, slot and block, its answer and the numbers that an allocate, of an extent or not,
 -- lists, and sees no memory and no disk.
 use Prim.Native.Nat.{ℕ, _≤_}
 use mathlib.Core.Path.{_≡_}

@@ -3,8 +3,8 @@ use Prim.Native.Nat.{ℕ}
 use mathlib.Core.List.{List, [], _∷_}
 use Rattle.model_types.specs.declared.memory.Memory.{Memory}
 use Rattle.model_types.specs.Memory.{zeroMemory}
-use Rattle.model.specs.Outcome.{Call, Outcome, outcome, openCall, startCall, allocateCall, allocateExtentCall, deallocateCall, precommitCall, commitCall, dropCall, revokeCall, storeCall, statusCall, commitCostCall, crashCall}
-use Rattle.crash_safety.specs.Ledger.{Ledger, Event, Kind, emptyLedger, enterAll, crashEvent, opening, starting, allocating, deallocating, precommitting, committing, rolling, storing, asking}
+use Rattle.model.specs.Outcome.{Call, Outcome, outcome, openCall, startCall, allocateCall, allocateExtentCall, deallocateCall, precommitCall, commitCall, dropCall, revokeCall, storeCall, statusCall, commitCostCall, reserveCall, crashCall}
+use Rattle.crash_safety.specs.Ledger.{Ledger, Event, Kind, emptyLedger, enterAll, crashEvent, opening, starting, allocating, deallocating, precommitting, committing, rolling, storing, asking, reserving}
 
 -- the memory and disk that the next call gets, and the ledger beside them
 pub record World : Type 0 where
@@ -38,6 +38,7 @@ events (revokeCall s) after = eventOf rolling s 0 after ∷ []
 events storeCall after = eventOf storing 0 0 after ∷ []
 events statusCall after = eventOf asking 0 0 after ∷ []
 events (commitCostCall s count) after = eventOf asking s 0 after ∷ []
+events (reserveCall s reservation) after = eventOf reserving s 0 after ∷ []
 events crashCall after = crashEvent ∷ []
 
 -- one call: memory and disk are its outcome's, and the ledger is fed its events

@@ -12,6 +12,7 @@ use bitops::block::has;
 use model_types::answer::Changed;
 use model_types::error::Error;
 use model_types::memory::Memory;
+use validity::Numbers;
 use validity::valid;
 use verdicts::ready::open;
 use verdicts::verdict::Verdict;
@@ -52,9 +53,15 @@ pub fn deallocate(mut memory: Memory, slot: u32, block: u32) -> Changed
     let sam = memory.sam;
     let mut com = memory.com;
     let mut slots = memory.slots;
+    let reserves = memory.reserves;
+    let numbers = Numbers {
+        blocks,
+        cursor: first,
+        reserves,
+    };
     let pending = memory.pending;
     let owner = slots[pending.owner()];
-    let sound = valid(blocks, first, &sam.words, &com.words, slots, pending, owner);
+    let sound = valid(numbers, &sam.words, &com.words, slots, pending, owner);
     let at = Bitmap::slot_index(slot);
     let mut own = slots[at];
     let state = own.state;

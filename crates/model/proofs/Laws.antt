@@ -4,6 +4,7 @@ pub mod First
 pub mod Numbers
 pub mod Answered
 pub mod Writes
+pub mod Reserves
 pub mod Accepted
 pub mod FourCounts
 pub mod Places
@@ -14,6 +15,7 @@ pub mod DiskParts
 pub mod Closing
 pub mod Matching
 pub mod Valid
+pub mod Fit
 pub mod Commit
 pub mod CommittedTam
 pub mod Touches
@@ -32,5 +34,9 @@ pub mod Extents
 pub mod Granting
 pub mod DropRevoke
 pub mod NextFit
+pub mod ForOthers
+pub mod Reservations
+pub mod ReservationStays
+pub mod CommitOf
 pub mod Opened
 pub mod Rows

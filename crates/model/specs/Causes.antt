@@ -1,16 +1,18 @@
 -- Document 01's table, "Causes of refusal", and the causes that document 02 adds: when each holds. What a call tests is in Calls/.
-use Prim.Native.Nat.{ℕ}
+use Prim.Native.Nat.{ℕ, _-_}
 use mathlib.Core.Bool.{Bool, not, _&&_}
 use mathlib.Core.List.{List}
 use lib.ListN.{length}
 use lib.Dec.{leb, ltb, eqb}
 use Rattle.bitmap.specs.Sizes.{maxCount, blocksInRange, countInRange, slotInRange}
 use Rattle.bitmap.specs.Bits.{noBitsFrom}
-use Rattle.bitmap.specs.Blocks.{isAvailable, availableBlocks}
+use Rattle.bitmap.specs.Blocks.{isAvailable}
 use Rattle.bitmap.specs.Extents.{starts}
 use Rattle.model.specs.Types.{Memory}
 use Rattle.model.specs.Sizes.{diskWords}
 use Rattle.model_types.specs.Memory.{slotAt, isActive, isPrecommitted, samBit, comBit}
+use Rattle.model.specs.Available.{available}
+use Rattle.model.specs.Reserves.{totalReserved, othersReserved, reserving}
 use Rattle.model.specs.Valid.{valid}
 use Rattle.model_types.specs.Pending.{isNothing}
 use Rattle.model.specs.Disk.{diskBlocks, diskBitmap, logValid, diskMatches}
@@ -83,10 +85,6 @@ countTooLarge count = ltb maxCount count
 unfoldable pub listShort : List ℕ → ℕ → Bool
 listShort list count = ltb (length list) count
 
--- the available blocks of a memory, lowest first
-unfoldable pub available : Memory → List ℕ
-available memory = availableBlocks (memory .blocks) (memory .sam .words) (memory .com .words)
-
 -- 17, "fewer grantable blocks than the count"
 unfoldable pub tooFewAvailable : Memory → ℕ → Bool
 tooFewAvailable memory count = ltb (length (available memory)) count
@@ -110,3 +108,11 @@ extentStarts memory count = starts (isAvailable (memory .sam .words) (memory .co
 -- 22 (document 02, job 4), "if no such run exists"
 unfoldable pub noExtent : Memory → ℕ → Bool
 noExtent memory count = eqb (length (extentStarts memory count)) 0
+
+-- 23 (document 02, job 7), "if the claims would then exceed the grantable blocks": once slot s has a reservation of so many
+unfoldable pub overReserved : Memory → ℕ → ℕ → Bool
+overReserved memory s reservation = ltb (length (available memory)) (totalReserved (reserving memory s reservation .reserves))
+
+-- 24 (job 7), "if a grant would leave fewer grantable blocks than the other seats' claims add up to"
+unfoldable pub reservedForOthers : Memory → ℕ → ℕ → Bool
+reservedForOthers memory s count = ltb (length (available memory) - count) (othersReserved (memory .reserves) s)

@@ -7,7 +7,8 @@ use lib.Dec.{eqb}
 use Rattle.bitmap.specs.Bits.{bit}
 use Rattle.bitmap.specs.Majority.{majority}
 use Rattle.model.specs.Types.{Bitmap, Slot, Nothing, Memory}
-use Rattle.model_types.specs.Memory.{withSam, withSlots, withPending, withTam, idleSlot, slotAt, samBit, comBit, tamBit, volumeBitmap, isActive}
+use Rattle.model_types.specs.Memory.{withSam, withSlots, withReserve, withPending, withTam, idleSlot, slotAt, reserveAt, samBit, comBit, tamBit, volumeBitmap, isActive}
+use Rattle.model.specs.Reserves.{usedUp}
 use Rattle.model.specs.Stores.{Store, changes, commitStores}
 
 -- "SAM becomes, bit by bit, the majority of SAM, COM and TAM (table 3)."
@@ -33,8 +34,13 @@ refreshed memory sam slot =
     (withTam slot (volumeBitmap memory (λ b. cond (xor (samBit memory b) (bit (sam .words) b)) (bit (sam .words) b) (tamBit slot b))))
     slot
 
--- the memory after the commit of slot s: the new SAM, the others refreshed, "Then the seat is idle"
+-- the memory after the commit of slot s: the new SAM, the others refreshed, "Then the seat is idle"; what it drew is used up
 unfoldable pub committed : Memory → ℕ → Memory
 committed memory s =
     let sam : Bitmap = committedSam memory s in
-    withPending (withSlots (withSam memory sam) (set (map (refreshed memory sam) (memory .slots)) s idleSlot)) Nothing
+    withPending
+    (withReserve
+    (withSlots (withSam memory sam) (set (map (refreshed memory sam) (memory .slots)) s idleSlot))
+    s
+    (usedUp (reserveAt memory s)))
+    Nothing

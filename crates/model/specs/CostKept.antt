@@ -1,6 +1,6 @@
 -- What commit cost promises. Document 02, job 2: "If the n blocks are allocated and nothing else is touched, the commit makes at
 -- most that many."
-use Prim.Native.Nat.{ℕ, _≤_, _<_}
+use Prim.Native.Nat.{ℕ, _+_, _≤_, _<_}
 use mathlib.Core.Path.{_≡_}
 use mathlib.Core.Bool.{true}
 use mathlib.Core.List.{List}
@@ -10,6 +10,7 @@ use Rattle.bitmap.specs.Bits.{IsBitmap}
 use Rattle.model.specs.Types.{Open, Nothing, Memory, Answer, GrantAnswer, StoresAnswer}
 use Rattle.model_types.specs.Memory.{slotAt, volumeWords}
 use Rattle.model_types.specs.Pending.{storesFor}
+use Rattle.model.specs.Reserves.{othersReserved}
 use Rattle.model.specs.Valid.{valid}
 use Rattle.model.specs.Calls.Allocate.{firstMet, allocateAnswer, allocateMemory}
 use Rattle.model.specs.Calls.Precommit.{precommitAnswer, precommitMemory}
@@ -39,12 +40,12 @@ CommitCostKept =
     (memory : Memory) → valid memory ≡ true → IsBitmap (memory .sam .words)
     → (s count cost : ℕ) → commitCostAnswer memory s count ≡ StoresAnswer.Due cost → CostKept memory s count cost
 
--- nothing else refuses it: for an open slot, with nothing pending, every count up to 64 and to the available blocks is answered,
--- "a count of 0 passes"
+-- nothing else refuses it: for an open slot, with nothing pending, every count up to 64 and to the available blocks, less those that
+-- are reserved for the other slots, is answered, "a count of 0 passes"
 abbrev pub CommitCostAnswered : Type 0
 CommitCostAnswered =
     OfValid (λ memory. (s count : ℕ) → memory .pending ≡ Nothing → s < slotCount → slotAt memory s .state ≡ Open
-    → count ≤ maxCount → count ≤ counts memory .available
+    → count ≤ maxCount → count + othersReserved (memory .reserves) s ≤ counts memory .available
     → commitCostAnswer memory s count ≡ StoresAnswer.Due (commitCost memory s count))
 
 -- and no cost is more than the stores of a commit that changes every word of the volume

@@ -1,17 +1,19 @@
 -- What drop and revoke promise. Document 02, job 5: "A station gave up another's sealed work by mistake. Split rollback: 'drop'
 -- serves an open seat, 'revoke' a precommitted one."
-use Prim.Native.Nat.{ℕ, _<_}
+use Prim.Native.Nat.{ℕ, _+_, _<_}
 use mathlib.Core.Path.{_≡_}
 use mathlib.Core.Bool.{cond}
+use lib.ListN.{set}
 use Rattle.bitmap.specs.Sizes.{slotCount}
 use Rattle.model.specs.Types.{SlotState, Idle, Open, Precommitted, Nothing, Memory, Answer, SlotIdle, SlotPrecommitted, SlotNotPrecommitted}
-use Rattle.model_types.specs.Memory.{slotAt, idleSlot, samBit, comBit}
+use Rattle.model_types.specs.Memory.{slotAt, reserveAt, reserveOf, idleSlot, samBit, comBit}
 use Rattle.model.specs.Valid.{touched}
 use Rattle.model.specs.Calls.Drop.{dropAnswer, dropMemory}
 use Rattle.model.specs.Calls.Revoke.{revokeAnswer, revokeMemory}
 use Rattle.model.specs.FourCounts.{OfValid}
 
--- slot s rolled back: it is idle, COM is as SAM at each block that it has touched, and nothing else alters
+-- slot s rolled back: it is idle, COM is as SAM at each block that it has touched, what it has drawn is put back (job 7), and nothing
+-- else alters
 pub record RollsBack (memory : Memory) (s : ℕ) (after : Memory) : Type 0 where
   pub idle : slotAt after s ≡ idleSlot
   pub com-bits : (b : ℕ) → comBit after b ≡ cond (touched memory (slotAt memory s) b) (samBit memory b) (comBit memory b)
@@ -19,6 +21,7 @@ pub record RollsBack (memory : Memory) (s : ℕ) (after : Memory) : Type 0 where
   pub same-cursor : after .cursor ≡ memory .cursor
   pub same-sam : after .sam ≡ memory .sam
   pub other-slots : (t : ℕ) → (t ≡ s → ⊥) → slotAt after t ≡ slotAt memory t
+  pub reserves : after .reserves ≡ set (memory .reserves) s (reserveOf (reserveAt memory s .reservation + reserveAt memory s .drawn) 0)
   pub same-pending : after .pending ≡ memory .pending
 
 -- the slot was in the state that the call means, and is rolled back

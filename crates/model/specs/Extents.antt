@@ -8,6 +8,8 @@ use lib.ListN.{length, getD}
 use Rattle.bitmap.specs.Blocks.{isAvailable}
 use Rattle.bitmap.specs.Extents.{distance}
 use Rattle.model.specs.Types.{Memory, GrantAnswer, NoExtent}
+use Rattle.model.specs.Available.{available}
+use Rattle.model.specs.Reserves.{othersReserved}
 use Rattle.model.specs.FourCounts.{OfValid, Eligible}
 use Rattle.model.specs.Calls.AllocateExtent.{allocateExtentAnswer, allocateExtentList}
 
@@ -40,11 +42,12 @@ ListsExtent =
     → allocateExtentAnswer memory s count near list ≡ GrantAnswer.First b
     → ListsAdjoining count b list (allocateExtentList memory s count near list)
 
--- where there is an extent, one is granted if only the want of one could refuse it
+-- where there is an extent, one is granted if only the want of one could refuse it, and it leaves what is reserved for the other slots
 abbrev pub FindsExtent : Type 0
 FindsExtent =
     OfValid (λ memory. (s count near : ℕ) (list : List ℕ) → Eligible memory s count list → near < memory .blocks
     → (c : ℕ) → IsExtent memory count c
+    → count + othersReserved (memory .reserves) s ≤ length (available memory)
     → (b : ℕ) × (allocateExtentAnswer memory s count near list ≡ GrantAnswer.First b))
 
 -- and where 22 is answered there is none

@@ -7,8 +7,9 @@ use mathlib.Core.List.{List}
 use lib.ListN.{length, getD}
 use lib.Dec.{ltb}
 use Rattle.bitmap.specs.Sizes.{slotCount, maxCount}
-use Rattle.model.specs.Types.{Open, Nothing, Memory, GrantAnswer, StatusAnswer, TooFewAvailable}
+use Rattle.model.specs.Types.{Open, Nothing, Memory, GrantAnswer, StatusAnswer, TooFewAvailable, ReservedForOthers}
 use Rattle.model_types.specs.Memory.{slotAt}
+use Rattle.model.specs.Reserves.{othersReserved}
 use Rattle.model.specs.Valid.{valid}
 use Rattle.model.specs.Causes.{tooFewAvailable}
 use Rattle.model.specs.Calls.Allocate.{firstMet, allocateAnswer}
@@ -45,13 +46,18 @@ pub record Eligible (memory : Memory) (s count : ℕ) (list : List ℕ) : Type 0
   pub few : count ≤ maxCount
   pub room : count ≤ length list
 
--- so status tells which counts can be had. One that is at most available is never refused by 17, whatever else is asked, and is
--- granted where only 17 could refuse it; there a larger one always is refused by 17
+-- so status tells which counts can be had. One that is at most available is never refused by 17, whatever else is asked. Where only
+-- the want of blocks could refuse it, it is granted if it leaves what is reserved for the other slots, and else refused by 24
+-- (document 02, job 7); there one that is more than available always is refused by 17
 pub record CanBeHad (memory : Memory) : Type 0 where
   pub never : (s count : ℕ) (list : List ℕ) → count ≤ counts memory .available
       → allocateAnswer memory s count list ≡ GrantAnswer.Refused TooFewAvailable → ⊥
-  pub granted : (s count : ℕ) (list : List ℕ) → Eligible memory s count list → count ≤ counts memory .available
+  pub granted : (s count : ℕ) (list : List ℕ) → Eligible memory s count list
+      → count + othersReserved (memory .reserves) s ≤ counts memory .available
       → allocateAnswer memory s count list ≡ GrantAnswer.First (getD (firstMet memory count) 0 0)
+  pub reserved : (s count : ℕ) (list : List ℕ) → Eligible memory s count list → count ≤ counts memory .available
+      → counts memory .available < count + othersReserved (memory .reserves) s
+      → allocateAnswer memory s count list ≡ GrantAnswer.Refused ReservedForOthers
   pub always : (s count : ℕ) (list : List ℕ) → Eligible memory s count list → counts memory .available < count
       → allocateAnswer memory s count list ≡ GrantAnswer.Refused TooFewAvailable
 

@@ -2,6 +2,8 @@
 pub mod Types
 pub mod Sizes
 pub mod First
+pub mod Available
+pub mod Reserves
 pub mod Stores
 pub mod Commit
 pub mod Rollback
@@ -15,6 +17,7 @@ pub mod CostKept
 pub mod Extents
 pub mod NextFit
 pub mod DropRevoke
+pub mod Reservations
 pub mod Completion
 pub mod Outcome
 pub mod Line

@@ -9,10 +9,10 @@ use lib.ListN.{length, getD, take, drop}
 use lib.Dec.{ltb, eqb}
 use Rattle.bitmap.specs.Blocks.{isAvailable, member}
 use Rattle.model.specs.Types.{Memory, GrantAnswer}
-use Rattle.model.specs.Causes.{available}
+use Rattle.model.specs.Available.{available}
 use Rattle.model.specs.Calls.Allocate.{firstMet, allocateAnswer, allocateMemory, allocateList}
 use Rattle.model.specs.Calls.AllocateExtent.{allocateExtentAnswer, allocateExtentMemory}
-use Rattle.model.specs.Outcome.{Call, openCall, startCall, allocateCall, allocateExtentCall, deallocateCall, precommitCall, commitCall, dropCall, revokeCall, storeCall, statusCall, commitCostCall, crashCall, outcome}
+use Rattle.model.specs.Outcome.{Call, openCall, startCall, allocateCall, allocateExtentCall, deallocateCall, precommitCall, commitCall, dropCall, revokeCall, storeCall, statusCall, commitCostCall, reserveCall, crashCall, outcome}
 
 -- it holds wherever an allocate is granted, b being its value
 abbrev pub OfGrant : ((memory : Memory) (s count : ℕ) (list : List ℕ) (b : ℕ) → Type 0) → Type 0
@@ -115,6 +115,7 @@ movesCursor (revokeCall s) number = false
 movesCursor storeCall number = false
 movesCursor statusCall number = false
 movesCursor (commitCostCall s count) number = false
+movesCursor (reserveCall s reservation) number = false
 movesCursor crashCall number = true
 
 -- no other call does: "Dropping or revoking doesn't move it back"

@@ -18,6 +18,7 @@ use Rattle.model.specs.Calls.Revoke.{revokeAnswer, revokeMemory}
 use Rattle.model.specs.Calls.Storing.{storeAnswer, storeMemory, storeDisk}
 use Rattle.model.specs.Calls.Status.{statusAnswer}
 use Rattle.model.specs.Calls.CommitCost.{commitCostAnswer}
+use Rattle.model.specs.Calls.Reserve.{reserveAnswer, reserveMemory}
 
 -- the calls of demand 3 (open, start, ..), with a crash (document 01: a cut) among them, and those that document 02 adds
 pub data Call : Type 0 where
@@ -33,6 +34,7 @@ pub data Call : Type 0 where
   storeCall : Call
   statusCall : Call
   commitCostCall : ℕ → ℕ → Call
+  reserveCall : ℕ → ℕ → Call
   crashCall : Call
 
 -- what a call gives: the memory and disk after it, its number (0, or the refusal's), its value, and the numbers listed
@@ -79,6 +81,8 @@ outcome storeCall memory disk =
 outcome statusCall memory disk = outcomeOf memory disk (statusNumber (statusAnswer memory)) (statusValue (statusAnswer memory))
 outcome (commitCostCall s count) memory disk =
     outcomeOf memory disk (storesNumber (commitCostAnswer memory s count)) (storesValue (commitCostAnswer memory s count))
+outcome (reserveCall s reservation) memory disk =
+    outcomeOf (reserveMemory memory s reservation) disk (doneNumber (reserveAnswer memory s reservation)) 0
 outcome crashCall memory disk = outcomeOf zeroMemory disk 0 0
 
 -- a format, which stands in no list: the memory stays

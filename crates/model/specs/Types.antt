@@ -3,11 +3,12 @@ pub use Rattle.bitmap.specs.declared.Bitmap.{Bitmap}
 pub use Rattle.model_types.specs.declared.memory.SlotState.{SlotState}
 pub use Rattle.model_types.specs.declared.memory.SlotState.the-variants.{Idle, Open, Precommitted}
 pub use Rattle.model_types.specs.declared.memory.Slot.{Slot}
+pub use Rattle.model_types.specs.declared.memory.Reserve.{Reserve}
 pub use Rattle.model_types.specs.declared.memory.Pending.{Pending}
 pub use Rattle.model_types.specs.declared.memory.Pending.the-variants.{Nothing, Commit, Recovery}
 pub use Rattle.model_types.specs.declared.memory.Memory.{Memory}
 pub use Rattle.model_types.specs.declared.error.Error.{Error}
-pub use Rattle.model_types.specs.declared.error.Error.the-variants.{MemoryInvalid, DiskLength, DiskBlocks, DiskBitmap, DiskLog, DiskMismatch, BlocksRange, WorkPending, NothingPending, SlotRange, SlotBusy, SlotIdle, SlotPrecommitted, SlotNotPrecommitted, CountRange, ListShort, TooFewAvailable, BlockRange, BlockFree, BlockFreeing, LineMalformed, NoExtent}
+pub use Rattle.model_types.specs.declared.error.Error.the-variants.{MemoryInvalid, DiskLength, DiskBlocks, DiskBitmap, DiskLog, DiskMismatch, BlocksRange, WorkPending, NothingPending, SlotRange, SlotBusy, SlotIdle, SlotPrecommitted, SlotNotPrecommitted, CountRange, ListShort, TooFewAvailable, BlockRange, BlockFree, BlockFreeing, LineMalformed, NoExtent, OverReserved, ReservedForOthers}
 pub use Rattle.model_types.specs.declared.answer.Answer.{Answer}
 pub use Rattle.model_types.specs.declared.answer.GrantAnswer.{GrantAnswer}
 pub use Rattle.model_types.specs.declared.answer.StoresAnswer.{StoresAnswer}

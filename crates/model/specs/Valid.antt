@@ -2,12 +2,15 @@
 use Prim.Native.Nat.{ℕ, _+_}
 use mathlib.Core.Bool.{Bool, true, false, not, cond, xor, _&&_}
 use mathlib.Core.List.{List, [], _∷_}
+use lib.ListN.{length}
 use lib.Dec.{leb, ltb, eqb}
-use Rattle.bitmap.specs.Sizes.{blocksInRange}
+use Rattle.bitmap.specs.Sizes.{slotCount, blocksInRange}
 use Rattle.bitmap.specs.Bits.{noBitsFrom}
-use Rattle.bitmap.specs.Blocks.{allBelow}
+use Rattle.bitmap.specs.Blocks.{from, allBelow}
 use Rattle.model.specs.Types.{Slot, Pending, Nothing, Commit, Recovery, Memory}
-use Rattle.model_types.specs.Memory.{slotAt, isActive, isPrecommitted, samBit, comBit, tamBit, emptyBitmap, volumeWords}
+use Rattle.model_types.specs.Memory.{slotAt, reserveAt, isActive, isPrecommitted, samBit, comBit, tamBit, emptyBitmap, volumeWords}
+use Rattle.model.specs.Available.{available}
+use Rattle.model.specs.Reserves.{totalReserved}
 use Rattle.model.specs.Commit.{changedOf, commitDue}
 
 -- whether two lists of words are the same
@@ -41,6 +44,22 @@ touches memory b (slot ∷ slots) = cond (isActive (slot .state) && touched memo
 unfoldable pub touchesAgree : Memory → Bool
 touchesAgree memory = allBelow (memory .blocks) (λ b. eqb (touches memory b (memory .slots)) (cond (xor (samBit memory b) (comBit memory b)) 1 0))
 
+-- whether a slot took a block: it has touched it, and SAM is 0
+unfoldable pub took : Memory → Slot → ℕ → Bool
+took memory slot b = touched memory slot b && not (samBit memory b)
+
+-- the blocks that slot s took, lowest first
+unfoldable pub takenBlocks : Memory → ℕ → List ℕ
+takenBlocks memory s = from (took memory (slotAt memory s)) (memory .blocks) 0
+
+-- document 02, job 7: "In a fit memory all claims add up to no more than the grantable blocks"
+unfoldable pub reservationsFit : Memory → Bool
+reservationsFit memory = leb (totalReserved (memory .reserves)) (length (available memory))
+
+-- "and no seat has used more than it took"
+unfoldable pub drawnFit : Memory → Bool
+drawnFit memory = allBelow slotCount (λ s. leb (reserveAt memory s .drawn) (length (takenBlocks memory s)))
+
 -- "during recovery all seats are idle, COM equals SAM"
 unfoldable pub isQuiet : Memory → Bool
 isQuiet memory = allSlots (λ slot. not (isActive (slot .state))) (memory .slots) && sameWords (memory .com .words) (memory .sam .words)
@@ -56,7 +75,7 @@ pendingValid memory (Commit s done due) =
     && ltb done due
 pendingValid memory (Recovery done due) = isQuiet memory && leb 2 due && leb due (volumeWords memory + 1) && ltb done due
 
--- "Memory is fit if ...". Document 02, job 6: the block to be searched first is "below m to be fit"
+-- "Memory is fit if ...". Document 02, job 6: the block to be searched first is "below m to be fit"; job 7: the claims fit
 unfoldable pub valid : Memory → Bool
 valid memory =
     blocksInRange (memory .blocks)
@@ -65,4 +84,6 @@ valid memory =
     && noBitsFrom (memory .blocks) (memory .com .words)
     && allSlots (slotValid (memory .blocks)) (memory .slots)
     && touchesAgree memory
+    && reservationsFit memory
+    && drawnFit memory
     && pendingValid memory (memory .pending)

@@ -25,6 +25,8 @@ pub enum Error {
     BlockFreeing,
     LineMalformed,
     NoExtent,
+    OverReserved,
+    ReservedForOthers,
 }
 
 impl Error {
@@ -55,6 +57,8 @@ impl Error {
             Error::BlockFreeing => 20,
             Error::LineMalformed => 21,
             Error::NoExtent => 22,
+            Error::OverReserved => 23,
+            Error::ReservedForOthers => 24,
         }
     }
 }

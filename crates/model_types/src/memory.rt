@@ -8,6 +8,8 @@ ghost use Rattle.model_types.specs.Memory.{
   zeroMemory,
   idleSlot,
   slotOf,
+  noReserve,
+  reserveOf,
   withPending,
   isActive,
   isPrecommitted,
@@ -28,6 +30,13 @@ pub struct Slot {
     pub state: SlotState,
 }
 
+// What is set aside for a slot, its reservation (document 02: its claim), and what of it the slot's transaction has drawn. It
+// stands beside the slot, since an idle slot may have a reservation.
+pub struct Reserve {
+    pub reservation: u32,
+    pub drawn: u32,
+}
+
 // Pending work (document 01: the store work in hand).
 pub enum Pending {
     Nothing,
@@ -35,13 +44,15 @@ pub enum Pending {
     Recovery { done: u32, due: u32 },
 }
 
-// The memory: the block count m, the cursor (the block to be searched first), SAM, COM, the eight slots and the pending work.
+// The memory: the block count m, the cursor (the block to be searched first), SAM, COM, the eight slots, what is reserved for
+// each, and the pending work.
 pub struct Memory {
     pub blocks: u32,
     pub cursor: u32,
     pub sam: Bitmap,
     pub com: Bitmap,
     pub slots: [Slot; 8],
+    pub reserves: [Reserve; 8],
     pub pending: Pending,
 }
 
@@ -85,6 +96,22 @@ impl Slot {
     }
 }
 
+impl Reserve {
+    // The one place in the code that writes a whole reserve.
+    pub fn new(reservation: u32, drawn: u32) -> Reserve
+        ensures { λ r. ⌜ r ≡ reserveOf reservation drawn ⌝ }
+    {
+        Reserve { reservation, drawn }
+    }
+
+    // Nothing set aside, nothing drawn.
+    pub fn none() -> Reserve
+        ensures { λ r. ⌜ r ≡ noReserve ⌝ }
+    {
+        Reserve::new(0, 0)
+    }
+}
+
 impl Memory {
     // The one place in the code that writes a whole memory.
     pub fn new(
@@ -93,9 +120,10 @@ impl Memory {
         sam: Bitmap,
         com: Bitmap,
         slots: [Slot; 8],
+        reserves: [Reserve; 8],
         pending: Pending,
     ) -> Memory
-        ensures { λ r. ⌜ r ≡ memoryOf blocks cursor sam «com» slots pending ⌝ }
+        ensures { λ r. ⌜ r ≡ memoryOf blocks cursor sam «com» slots reserves pending ⌝ }
     {
         Memory {
             blocks,
@@ -103,16 +131,18 @@ impl Memory {
             sam,
             com,
             slots,
+            reserves,
             pending,
         }
     }
 
-    // A volume with all slots idle, COM equal to SAM, to be searched from block 0 on.
+    // A volume with all slots idle, COM equal to SAM, to be searched from block 0 on, with nothing reserved.
     pub fn quiet(blocks: u32, sam: Bitmap, pending: Pending) -> Memory
         ensures { λ r. ⌜ r ≡ quietMemory blocks sam pending ⌝ }
     {
         let slots = [Slot::idle(); 8];
-        Memory::new(blocks, 0, sam, sam, slots, pending)
+        let reserves = [Reserve::none(); 8];
+        Memory::new(blocks, 0, sam, sam, slots, reserves, pending)
     }
 
     // The memory of zeros. It isn't valid.
@@ -129,7 +159,8 @@ impl Memory {
         let sam = self.sam;
         let com = self.com;
         let slots = self.slots;
-        Memory::new(self.blocks, self.cursor, sam, com, slots, pending)
+        let reserves = self.reserves;
+        Memory::new(self.blocks, self.cursor, sam, com, slots, reserves, pending)
     }
 }
 

@@ -6,6 +6,7 @@ use model_types::answer::Changed;
 use model_types::memory::Memory;
 use model_types::memory::Slot;
 use model_types::memory::SlotState;
+use validity::Numbers;
 use validity::valid;
 use verdicts::ready::open;
 
@@ -19,9 +20,15 @@ pub fn precommit(mut memory: Memory, slot: u32) -> Changed
     let sam = memory.sam;
     let com = memory.com;
     let mut slots = memory.slots;
+    let reserves = memory.reserves;
+    let numbers = Numbers {
+        blocks,
+        cursor: first,
+        reserves,
+    };
     let pending = memory.pending;
     let owner = slots[pending.owner()];
-    let sound = valid(blocks, first, &sam.words, &com.words, slots, pending, owner);
+    let sound = valid(numbers, &sam.words, &com.words, slots, pending, owner);
     let at = Bitmap::slot_index(slot);
     let own = slots[at];
     let state = own.state;

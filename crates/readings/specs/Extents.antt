@@ -7,7 +7,7 @@ use mathlib.Core.List.{List, [], _∷_}
 use lib.ListN.{replicate}
 use Rattle.bitmap.specs.Sizes.{bitmapWords, maxCount, blocksInRange, countInRange, slotInRange}
 use Rattle.bitmap.specs.Bits.{isSet, bit, wordOf, wordsOf, bitmapOf, noBitsFrom}
-use Rattle.bitmap.specs.Blocks.{scan, from, isAvailable, member, allBelow}
+use Rattle.bitmap.specs.Blocks.{scan, from, isAvailable, availableBlocks, member, allBelow}
 use Rattle.bitmap.specs.Extents.{adjoining, isStart, starts, distance, nearer, nearestOf, nearest}
 use Rattle.bitmap.specs.Round.{wrapped, afterLast}
 use Rattle.model_types.specs.declared.memory.Memory.{Memory}
@@ -16,12 +16,14 @@ use Rattle.model_types.specs.Answers.{granted, grantNumber, grantValue}
 use Rattle.model_types.specs.Memory.{quietMemory, bitmap}
 use Rattle.model_types.specs.Pending.{isNothing}
 use Rattle.model.specs.First.{firstOr, first, unlessRefused}
-use Rattle.model.specs.Causes.{memoryInvalid, nothingPending, workPending, slotOutOfRange, slotActive, slotInactive, slotPrecommitted, countOutOfRange, listShort, blockOutOfRange, extentStarts, noExtent}
+use Rattle.model.specs.Available.{available}
+use Rattle.model.specs.Reserves.{totalReserved, othersReserved, drawing}
+use Rattle.model.specs.Causes.{memoryInvalid, nothingPending, workPending, slotOutOfRange, slotActive, slotInactive, slotPrecommitted, countOutOfRange, listShort, blockOutOfRange, extentStarts, noExtent, reservedForOthers}
 use Rattle.model.specs.Calls.Start.{startError, started, startMemory}
 use Rattle.model.specs.Calls.Precommit.{precommitError, precommitting, precommitMemory}
 use Rattle.model.specs.Calls.Allocate.{taking}
 use Rattle.model.specs.Calls.AllocateExtent.{allocateExtentError, nearestExtent, allocateExtentAnswer, allocateExtentMemory, allocateExtentList}
-use Rattle.model.specs.Valid.{touched, sameWords, allSlots, slotValid, touches, touchesAgree, isQuiet, pendingValid, valid}
+use Rattle.model.specs.Valid.{touched, sameWords, allSlots, slotValid, touches, touchesAgree, took, takenBlocks, reservationsFit, drawnFit, isQuiet, pendingValid, valid}
 use Rattle.model.proofs.Laws.Rows.{sameRows, rows-same}
 
 list : List ℕ
@@ -66,7 +68,7 @@ found =
     ∷ []
 
 computed : sameRows extents found ≡ true
-unfolding sameRows extents found list open1 granted1 number1 xor isSet bit wordOf wordsOf bitmapOf noBitsFrom scan from isAvailable member allBelow adjoining isStart starts distance nearer nearestOf nearest granted isNothing firstOr first unlessRefused memoryInvalid nothingPending workPending slotOutOfRange slotActive slotInactive slotPrecommitted countOutOfRange listShort blockOutOfRange extentStarts noExtent startError started startMemory precommitError precommitting precommitMemory wrapped afterLast taking allocateExtentError nearestExtent allocateExtentAnswer allocateExtentMemory allocateExtentList touched sameWords allSlots slotValid touches touchesAgree isQuiet pendingValid valid blocksInRange countInRange slotInRange
+unfolding sameRows extents found list open1 granted1 number1 xor isSet bit wordOf wordsOf bitmapOf noBitsFrom scan from isAvailable member allBelow adjoining isStart starts distance nearer nearestOf nearest granted isNothing firstOr first unlessRefused memoryInvalid nothingPending workPending slotOutOfRange slotActive slotInactive slotPrecommitted countOutOfRange listShort blockOutOfRange extentStarts noExtent startError started startMemory precommitError precommitting precommitMemory wrapped afterLast taking allocateExtentError nearestExtent allocateExtentAnswer allocateExtentMemory allocateExtentList touched sameWords allSlots slotValid touches touchesAgree took takenBlocks reservationsFit drawnFit isQuiet pendingValid valid blocksInRange countInRange slotInRange availableBlocks available totalReserved othersReserved drawing reservedForOthers
 computed = refl
 
 pub extents-found : extents ≡ found

@@ -17,13 +17,15 @@ use Rattle.model_types.specs.Answers.{granted, grantNumber, grantValue}
 use Rattle.model_types.specs.Memory.{quietMemory, withCursor, bitmap}
 use Rattle.model_types.specs.Pending.{isNothing}
 use Rattle.model.specs.First.{firstOr, first, unlessRefused}
-use Rattle.model.specs.Causes.{memoryInvalid, nothingPending, workPending, slotOutOfRange, slotActive, slotInactive, slotPrecommitted, countOutOfRange, listShort, available, tooFewAvailable, blockOutOfRange, extentStarts, noExtent}
+use Rattle.model.specs.Available.{available}
+use Rattle.model.specs.Reserves.{totalReserved, othersReserved, drawing, putBack}
+use Rattle.model.specs.Causes.{memoryInvalid, nothingPending, workPending, slotOutOfRange, slotActive, slotInactive, slotPrecommitted, countOutOfRange, listShort, tooFewAvailable, blockOutOfRange, extentStarts, noExtent, reservedForOthers}
 use Rattle.model.specs.Rollback.{rolledBackCom, rolledBack}
 use Rattle.model.specs.Calls.Start.{startError, started, startMemory}
 use Rattle.model.specs.Calls.Allocate.{allocateError, met, firstMet, taking, allocateAnswer, allocateMemory, allocateList}
 use Rattle.model.specs.Calls.AllocateExtent.{allocateExtentError, nearestExtent, allocateExtentAnswer, allocateExtentMemory, allocateExtentList}
 use Rattle.model.specs.Calls.Drop.{dropError, dropMemory}
-use Rattle.model.specs.Valid.{touched, sameWords, allSlots, slotValid, touches, touchesAgree, isQuiet, pendingValid, valid}
+use Rattle.model.specs.Valid.{touched, sameWords, allSlots, slotValid, touches, touchesAgree, took, takenBlocks, reservationsFit, drawnFit, isQuiet, pendingValid, valid}
 use Rattle.model.proofs.Laws.Rows.{sameRows, rows-same}
 
 list : List ℕ
@@ -87,7 +89,7 @@ found =
     ∷ []
 
 computed : sameRows turns found ≡ true
-unfolding sameRows turns found list open1 from1 asked after3 behind xor isSet bit wordOf wordsOf bitmapOf noBitsFrom scan from isAvailable availableBlocks member allBelow adjoining isStart starts distance nearer nearestOf nearest roundFrom wrapped afterLast majority granted isNothing firstOr first unlessRefused memoryInvalid nothingPending workPending slotOutOfRange slotActive slotInactive slotPrecommitted countOutOfRange listShort available tooFewAvailable blockOutOfRange extentStarts noExtent rolledBackCom rolledBack startError started startMemory allocateError met firstMet taking allocateAnswer allocateMemory allocateList allocateExtentError nearestExtent allocateExtentAnswer allocateExtentMemory allocateExtentList dropError dropMemory touched sameWords allSlots slotValid touches touchesAgree isQuiet pendingValid valid blocksInRange countInRange slotInRange
+unfolding sameRows turns found list open1 from1 asked after3 behind xor isSet bit wordOf wordsOf bitmapOf noBitsFrom scan from isAvailable availableBlocks member allBelow adjoining isStart starts distance nearer nearestOf nearest roundFrom wrapped afterLast majority granted isNothing firstOr first unlessRefused memoryInvalid nothingPending workPending slotOutOfRange slotActive slotInactive slotPrecommitted countOutOfRange listShort available tooFewAvailable blockOutOfRange extentStarts noExtent rolledBackCom rolledBack startError started startMemory allocateError met firstMet taking allocateAnswer allocateMemory allocateList allocateExtentError nearestExtent allocateExtentAnswer allocateExtentMemory allocateExtentList dropError dropMemory touched sameWords allSlots slotValid touches touchesAgree took takenBlocks reservationsFit drawnFit isQuiet pendingValid valid blocksInRange countInRange slotInRange totalReserved othersReserved drawing putBack reservedForOthers
 computed = refl
 
 pub turns-found : turns ≡ found

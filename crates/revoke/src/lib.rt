@@ -4,7 +4,9 @@ ghost use Rattle.model.specs.Calls.Revoke.{revokeAnswer, revokeMemory};
 use bitmap::Bitmap;
 use model_types::answer::Changed;
 use model_types::memory::Memory;
+use reserves::change::put_back;
 use rollback::roll_back;
+use validity::Numbers;
 use validity::valid;
 use verdicts::ready::precommitted;
 
@@ -18,9 +20,15 @@ pub fn revoke(mut memory: Memory, slot: u32) -> Changed
     let sam = memory.sam;
     let mut com = memory.com;
     let mut slots = memory.slots;
+    let mut reserves = memory.reserves;
+    let numbers = Numbers {
+        blocks,
+        cursor: first,
+        reserves,
+    };
     let pending = memory.pending;
     let owner = slots[pending.owner()];
-    let sound = valid(blocks, first, &sam.words, &com.words, slots, pending, owner);
+    let sound = valid(numbers, &sam.words, &com.words, slots, pending, owner);
     let at = Bitmap::slot_index(slot);
     let own = slots[at];
     let state = own.state;
@@ -29,8 +37,11 @@ pub fn revoke(mut memory: Memory, slot: u32) -> Changed
     if verdict.is_accepted() {
         let idle = roll_back(&mut com.words, &sam.words, &own.tam.words);
         slots[at] = idle;
+        let back = put_back(reserves, at);
+        reserves = back;
     }
     memory.com = com;
     memory.slots = slots;
+    memory.reserves = reserves;
     Changed { answer, memory }
 }

@@ -13,6 +13,7 @@ use model_types::answer::StatusAnswer;
 use model_types::error::Error;
 use model_types::memory::Memory;
 use model_types::memory::Slot;
+use validity::Numbers;
 use validity::valid;
 
 // The number of slots that aren't idle.
@@ -62,9 +63,15 @@ pub fn status(memory: Memory) -> Measured
     let sam = memory.sam;
     let com = memory.com;
     let slots = memory.slots;
+    let reserves = memory.reserves;
+    let numbers = Numbers {
+        blocks,
+        cursor: first,
+        reserves,
+    };
     let pending = memory.pending;
     let owner = slots[pending.owner()];
-    let sound = valid(blocks, first, &sam.words, &com.words, slots, pending, owner);
+    let sound = valid(numbers, &sam.words, &com.words, slots, pending, owner);
     let tally = count_blocks(&sam.words, &com.words);
     let active = count_active(slots);
     let answer = counted(sound, blocks, tally, active);

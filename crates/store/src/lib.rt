@@ -12,11 +12,14 @@ use progress::ends_commit;
 use progress::pending_after;
 use progress::still_due;
 use refreshed::refreshed;
+use reserves::change::use_up;
 use step::judge;
 use step::store_next;
+use validity::Numbers;
 use validity::valid;
 
-// Makes the next store. Refused, memory and disk stay. With a commit's last store its slot's TAM becomes SAM.
+// Makes the next store. Refused, memory and disk stay. With a commit's last store its slot's TAM becomes SAM, and
+// what the slot has drawn is used up.
 pub fn store(mut memory: Memory, disk: &mut [u32]) -> Stored
     ensures answers { λ r. ⌜ r .answer ≡ storeAnswer memory (now (disk .entry)) ⌝ }
     ensures leaves { λ r. ⌜ r .memory ≡ storeMemory memory (now (disk .entry)) ⌝ }
@@ -27,10 +30,16 @@ pub fn store(mut memory: Memory, disk: &mut [u32]) -> Stored
     let mut sam = memory.sam;
     let com = memory.com;
     let mut slots = memory.slots;
+    let mut reserves = memory.reserves;
+    let numbers = Numbers {
+        blocks,
+        cursor: first,
+        reserves,
+    };
     let mut pending = memory.pending;
     let at = pending.owner();
     let owner = slots[at];
-    let sound = valid(blocks, first, &sam.words, &com.words, slots, pending, owner);
+    let sound = valid(numbers, &sam.words, &com.words, slots, pending, owner);
     let verdict = judge(sound, blocks, &sam.words, &owner.tam.words, pending, disk);
     let mut answer = verdict.stores(0);
     if verdict.is_accepted() {
@@ -40,11 +49,14 @@ pub fn store(mut memory: Memory, disk: &mut [u32]) -> Stored
             slots = refreshed(slots, at, &sam.words, &owner.tam.words);
             let new = owner.tam;
             sam = new;
+            let left = use_up(reserves, at);
+            reserves = left;
         }
         pending = pending_after(pending);
     }
     memory.sam = sam;
     memory.slots = slots;
+    memory.reserves = reserves;
     let next = memory.with_pending(pending);
     Stored {
         answer,

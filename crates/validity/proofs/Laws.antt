@@ -5,5 +5,6 @@ pub mod LeftBits
 pub mod Passed
 pub mod Right
 pub mod Maps
+pub mod Reserved
 pub mod Pending
 pub mod Checked

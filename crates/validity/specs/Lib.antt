@@ -1,2 +1,3 @@
 -- What the contracts of this crate cite beside model's `valid`.
+pub mod Fit
 pub mod Pending

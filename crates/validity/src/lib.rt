@@ -3,23 +3,35 @@
 ghost use mathlib.Core.Path.{_≡_};
 ghost use lib.ListN.{getD};
 ghost use Rattle.bitmap.specs.Bits.{IsBitmap};
-ghost use Rattle.model_types.specs.Memory.{bitmap, memoryOf, idleSlot};
+ghost use Rattle.model_types.specs.Memory.{bitmap, memoryOf, idleSlot, noReserves};
 ghost use Rattle.model_types.specs.Pending.{ownerOf};
 ghost use Rattle.model.specs.Valid.{valid};
 use bitmap::Bitmap;
 use bitops::compare::is_empty;
 use bits::volume_valid;
+use fit::drawn_fit;
+use fit::reservations_fit;
 use model_types::memory::Pending;
+use model_types::memory::Reserve;
 use model_types::memory::Slot;
 use pending::commit_valid;
 use pending::recovery_valid;
+use reserves::sums::any_drawn;
 use touches::touch::differences;
 use touches::touch::take_touched;
 
 pub mod bits;
+pub mod fit;
 pub mod pending;
 
-// Whether the bitmaps are those of a valid memory. No slot's bitmap is looked at for bits from the block count on: they
+// The numbers of a memory: all of it but for the bitmaps and the pending work.
+pub struct Numbers {
+    pub blocks: u32,
+    pub cursor: u32,
+    pub reserves: [Reserve; 8],
+}
+
+// Whether the bitmaps are those of a valid memory, whatever is reserved. No slot's bitmap is looked at for bits from the block count on: they
 // would be touches that aren't left.
 pub fn maps_valid<'a>(
     blocks: u32,
@@ -30,7 +42,7 @@ pub fn maps_valid<'a>(
 ) -> bool
     requires { ⌜ IsBitmap (now sam) ⌝ }
     requires { ⌜ IsBitmap (now «com») ⌝ }
-    ensures { λ r. ⌜ r ≡ valid (memoryOf blocks cursor (bitmap (now (sam .entry))) (bitmap (now («com» .entry))) slots Pending.Nothing) ⌝ }
+    ensures { λ r. ⌜ r ≡ valid (memoryOf blocks cursor (bitmap (now (sam .entry))) (bitmap (now («com» .entry))) slots noReserves Pending.Nothing) ⌝ }
 {
     if !volume_valid(blocks, cursor, sam, com) {
         return false;
@@ -57,8 +69,7 @@ pub fn maps_valid<'a>(
 
 // Whether a memory is valid. The owner is the slot that the pending work is to be looked up in.
 pub fn valid<'a>(
-    blocks: u32,
-    cursor: u32,
+    numbers: Numbers,
     sam: &'a [u32; 128],
     com: &'a [u32; 128],
     slots: [Slot; 8],
@@ -68,10 +79,21 @@ pub fn valid<'a>(
     requires { ⌜ IsBitmap (now sam) ⌝ }
     requires { ⌜ IsBitmap (now «com») ⌝ }
     requires { ⌜ owner ≡ getD slots (ownerOf pending) idleSlot ⌝ }
-    ensures { λ r. ⌜ r ≡ valid (memoryOf blocks cursor (bitmap (now (sam .entry))) (bitmap (now («com» .entry))) slots pending) ⌝ }
+    ensures { λ r. ⌜ r ≡ valid (memoryOf (numbers .blocks) (numbers .cursor) (bitmap (now (sam .entry))) (bitmap (now («com» .entry))) slots (numbers .reserves) pending) ⌝ }
 {
-    if !maps_valid(blocks, cursor, sam, com, slots) {
+    let blocks = numbers.blocks;
+    let reserves = numbers.reserves;
+    if !maps_valid(blocks, numbers.cursor, sam, com, slots) {
         return false;
+    }
+    if !reservations_fit(blocks, sam, com, reserves) {
+        return false;
+    }
+    // The slots are copied into the test, so they are only if there is something to test.
+    if any_drawn(reserves) {
+        if !drawn_fit(sam, slots, reserves) {
+            return false;
+        }
     }
     match pending {
         Pending::Nothing => true,

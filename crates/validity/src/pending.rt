@@ -3,7 +3,7 @@ ghost use mathlib.Core.Path.{_≡_};
 ghost use Prim.Native.Nat.{_≤_};
 ghost use Rattle.bitmap.specs.Sizes.{maxBlocks};
 ghost use Rattle.bitmap.specs.Bits.{IsBitmap};
-ghost use Rattle.model_types.specs.Memory.{bitmap, memoryOf};
+ghost use Rattle.model_types.specs.Memory.{bitmap, memoryOf, noReserves};
 ghost use Rattle.model.specs.Valid.{pendingValid};
 ghost use Rattle.validity.specs.Pending.{commitValid};
 use bitmap::Bitmap;
@@ -39,7 +39,8 @@ pub fn commit_valid(
     done < due
 }
 
-// During a recovery all slots are idle, COM equals SAM, and there are 2 to W + 1 stores. The cursor plays no part.
+// During a recovery all slots are idle, COM equals SAM, and there are 2 to W + 1 stores. Neither the cursor nor what is reserved plays a
+// part.
 pub fn recovery_valid<'a>(
     blocks: u32,
     sam: &'a [u32; 128],
@@ -51,7 +52,7 @@ pub fn recovery_valid<'a>(
     requires { ⌜ blocks ≤ maxBlocks ⌝ }
     requires { ⌜ IsBitmap (now sam) ⌝ }
     requires { ⌜ IsBitmap (now «com») ⌝ }
-    ensures { λ r. ⌜ r ≡ pendingValid (memoryOf blocks 0 (bitmap (now (sam .entry))) (bitmap (now («com» .entry))) slots (Pending.Recovery done due)) (Pending.Recovery done due) ⌝ }
+    ensures { λ r. ⌜ r ≡ pendingValid (memoryOf blocks 0 (bitmap (now (sam .entry))) (bitmap (now («com» .entry))) slots noReserves (Pending.Recovery done due)) (Pending.Recovery done due) ⌝ }
 {
     for s in 0..Bitmap::SLOTS {
         let slot = slots[s];

@@ -2,6 +2,7 @@
 //! job 6).
 
 use super::readiness::open_slot;
+use super::reserve::leave_to_others;
 use crate::bitmap::Bitmap;
 use crate::error::{require, Error};
 use crate::memory::Memory;
@@ -14,7 +15,7 @@ pub const MAX_COUNT: u32 = 64;
 /// go to the first places of the list in the order met; later places stay.
 pub fn allocate(memory: &mut Memory, slot: u32, count: u32, list: &mut [u32]) -> Result<(), Error> {
     let index = slot_to_list(memory, slot, count, list)?;
-    require(available_blocks(memory) >= count, Error::TooFewAvailable)?;
+    has_blocks_for(memory, index, count)?;
     grant(memory, index, &mut list[..count as usize]);
     Ok(())
 }
@@ -32,11 +33,11 @@ pub(super) fn slot_to_list(
     Ok(index)
 }
 
-/// The blocks with SAM 0 and COM 0 of a valid memory, whose bitmaps have no bit from m on.
-pub(super) fn available_blocks(memory: &Memory) -> u32 {
-    let words = memory.sam.words.iter().zip(&memory.com.words);
-    let used: u32 = words.map(|(sam, com)| (sam | com).count_ones()).sum();
-    memory.blocks - used
+/// The causes 17 and 24, which commit cost has too. The memory is valid.
+pub(super) fn has_blocks_for(memory: &Memory, index: usize, count: u32) -> Result<(), Error> {
+    let available = memory.available_where_bitmaps_fit();
+    require(available >= count, Error::TooFewAvailable)?;
+    leave_to_others(memory, index, available - count)
 }
 
 /// Gives the slot the first available blocks met, as many as the list has places, of which there
@@ -53,6 +54,7 @@ fn grant(memory: &mut Memory, index: usize, list: &mut [u32]) {
         }
     }
     memory.carry_on_after(list[list.len() - 1]);
+    memory.slots[index].draw(list.len() as u32);
 }
 
 /// The words in the order of the search, each with the bits that are looked at then. The cursor's

@@ -2,6 +2,7 @@
 //! (job 4).
 
 use super::allocate::slot_to_list;
+use super::reserve::leave_to_others;
 use crate::error::{require, Error};
 use crate::memory::Memory;
 
@@ -18,12 +19,14 @@ pub fn allocate_extent(
     let index = slot_to_list(memory, slot, count, list)?;
     require(near < memory.blocks, Error::BlockNumber)?;
     let start = nearest_start(memory, count, near).ok_or(Error::NoExtent)?;
+    leave_to_others(memory, index, memory.available_where_bitmaps_fit() - count)?;
     for (place, block) in list.iter_mut().zip(start..start + count) {
         *place = block;
         memory.com.set(block);
         memory.slots[index].tam.set(block);
     }
     memory.carry_on_after(start + count - 1);
+    memory.slots[index].draw(count);
     Ok(start)
 }
 

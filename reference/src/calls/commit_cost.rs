@@ -1,6 +1,6 @@
 //! The commit cost, document 02's foretelling (job 2).
 
-use super::allocate::{available_blocks, MAX_COUNT};
+use super::allocate::{has_blocks_for, MAX_COUNT};
 use super::readiness::open_slot;
 use crate::bitmap::Bitmap;
 use crate::error::{require, Error};
@@ -12,7 +12,7 @@ use crate::store_list::StoreList;
 pub fn commit_cost(memory: &Memory, slot: u32, count: u32) -> Result<u32, Error> {
     let index = open_slot(memory, slot)?;
     require(count <= MAX_COUNT, Error::Count)?;
-    require(available_blocks(memory) >= count, Error::TooFewAvailable)?;
+    has_blocks_for(memory, index, count)?;
     match memory.touched_blocks(&memory.slots[index].tam) + count {
         0 => Ok(0),
         touched => Ok(StoreList::due_for(touched.min(Bitmap::words_for(memory.blocks)))),

@@ -1,11 +1,11 @@
-//! The causes that the transaction calls share, commit cost and allocate extent with them. Each
-//! check gives the slot's index.
+//! The causes that the transaction calls share, commit cost, allocate extent and reserve with them.
+//! Each check gives the slot's index.
 
 use crate::error::{require, Error};
 use crate::memory::{Memory, Pending, SlotState};
 
 /// Causes 1, 8 and 10, which all of them test first.
-pub fn any_slot(memory: &Memory, slot: u32) -> Result<usize, Error> {
+fn any_slot(memory: &Memory, slot: u32) -> Result<usize, Error> {
     require(memory.is_valid(), Error::InvalidMemory)?;
     require(memory.pending == Pending::Nothing, Error::WorkPending)?;
     let index = slot as usize;
@@ -13,7 +13,14 @@ pub fn any_slot(memory: &Memory, slot: u32) -> Result<usize, Error> {
     Ok(index)
 }
 
-/// Cause 12 too, which all but start test next.
+/// Cause 11 too, for start and reserve.
+pub fn idle_slot(memory: &Memory, slot: u32) -> Result<usize, Error> {
+    let index = any_slot(memory, slot)?;
+    require(memory.slots[index].state == SlotState::Idle, Error::SlotNotIdle)?;
+    Ok(index)
+}
+
+/// Cause 12 too, which all others test next.
 fn active_slot(memory: &Memory, slot: u32) -> Result<usize, Error> {
     let index = any_slot(memory, slot)?;
     require(memory.slots[index].state != SlotState::Idle, Error::SlotIdle)?;

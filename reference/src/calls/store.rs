@@ -5,7 +5,7 @@ use crate::bitmap::Bitmap;
 use crate::disk::{BITMAP_START, DISK_WORDS, LOG_LENGTH_POSITION};
 use crate::error::{require, Error};
 use crate::log;
-use crate::memory::{Memory, Pending, Slot, SlotState};
+use crate::memory::{Memory, Pending, SlotState};
 use crate::store_list::StoreList;
 
 /// Makes the next store and gives the number still due.
@@ -46,7 +46,7 @@ fn store_of_commit(
 /// for each block that the commit changed; document 000 leaves this out.
 fn finish_commit(memory: &mut Memory, index: usize, sam: Bitmap) {
     let before = memory.sam;
-    memory.slots[index] = Slot::IDLE;
+    memory.slots[index].end_committed();
     for slot in memory.slots.iter_mut().filter(|slot| slot.state != SlotState::Idle) {
         slot.tam = Bitmap::combine(&slot.tam, &before, &sam, |tam, before, after| {
             let changed = before ^ after;

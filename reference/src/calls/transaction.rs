@@ -1,17 +1,17 @@
 //! The course of a transaction: start, precommit, commit, and the two ways to back out, drop and
 //! revoke (document 02, job 5).
 
-use super::readiness::{any_slot, open_slot, precommitted_slot};
+use super::readiness::{idle_slot, open_slot, precommitted_slot};
 use crate::bitmap::{majority, Bitmap};
-use crate::error::{require, Error};
-use crate::memory::{Memory, Pending, Slot, SlotState};
+use crate::error::Error;
+use crate::memory::{Memory, Pending, SlotState};
 use crate::store_list::StoreList;
 
 /// Opens a transaction in an idle slot, on a copy of SAM.
 pub fn start(memory: &mut Memory, slot: u32) -> Result<(), Error> {
-    let index = any_slot(memory, slot)?;
-    require(memory.slots[index].state == SlotState::Idle, Error::SlotNotIdle)?;
-    memory.slots[index] = Slot { state: SlotState::Open, tam: memory.sam };
+    let index = idle_slot(memory, slot)?;
+    let slot = &mut memory.slots[index];
+    (slot.state, slot.tam) = (SlotState::Open, memory.sam);
     Ok(())
 }
 
@@ -27,7 +27,7 @@ pub fn commit(memory: &mut Memory, slot: u32) -> Result<u32, Error> {
     let index = precommitted_slot(memory, slot)?;
     let changed = memory.changed_words(&memory.slots[index].tam);
     if changed == 0 {
-        memory.slots[index] = Slot::IDLE;
+        memory.slots[index].end_committed();
         return Ok(0);
     }
     let due = StoreList::due_for(changed);
@@ -54,5 +54,5 @@ fn roll_back(memory: &mut Memory, index: usize) {
     let tam = &memory.slots[index].tam;
     memory.com =
         Bitmap::combine(&memory.com, &memory.sam, tam, |com, sam, tam| majority(com, sam, !tam));
-    memory.slots[index] = Slot::IDLE;
+    memory.slots[index].end_rolled_back();
 }

@@ -1,6 +1,6 @@
 //! What is aimed at: each cause for each call that document 01's table names with it or that
-//! document 02 gives it, and calls of transactions, statuses, commit costs and extents that are
-//! accepted.
+//! document 02 gives it, and calls of transactions, statuses, commit costs, extents and reserves that
+//! are accepted.
 
 use super::Damage;
 use crate::error::Error;
@@ -19,6 +19,7 @@ pub enum Call {
     Bench(Operation),
     Cost,
     Extent,
+    Reserve,
 }
 
 /// The transaction calls: start, those that an open slot takes, those that a precommitted one takes.
@@ -37,7 +38,7 @@ const OF_PRECOMMITTED_SLOTS: &[Operation] = ALL_BUT_START.split_at(4).1;
 
 /// The calls of each cause, and how often each is aimed at in a round: more often if there are many
 /// ways to the cause, or two lines for the call.
-const CAUSES: [(Error, &[Operation], usize); 22] = [
+const CAUSES: [(Error, &[Operation], usize); 23] = [
     (Error::InvalidMemory, &TRANSACTION_CALLS, 1),
     (Error::InvalidMemory, &[Operation::Store], 1),
     (Error::InvalidMemory, &[Operation::Status], 2),
@@ -60,11 +61,12 @@ const CAUSES: [(Error, &[Operation], usize); 22] = [
     (Error::BlockNumber, &[Operation::Deallocate], 1),
     (Error::BlockNotAllocated, &[Operation::Deallocate], 1),
     (Error::BlockAlreadyFreed, &[Operation::Deallocate], 1),
+    (Error::ReservedForOthers, &[Operation::Allocate], 1),
 ];
 
 /// The causes of commit cost, allocate's but for the list's length, and how often each is to be
 /// reached in a round. Most are met beside transaction calls.
-const COST_CAUSES: [(Error, usize); 7] = [
+const COST_CAUSES: [(Error, usize); 8] = [
     (Error::InvalidMemory, 2),
     (Error::WorkPending, 2),
     (Error::SlotNumber, 2),
@@ -72,11 +74,12 @@ const COST_CAUSES: [(Error, usize); 7] = [
     (Error::SlotPrecommitted, 2),
     (Error::Count, 2),
     (Error::TooFewAvailable, 2),
+    (Error::ReservedForOthers, 2),
 ];
 const ACCEPTED_COSTS: usize = 2;
 
 /// The causes of allocate extent, in the same way.
-const EXTENT_CAUSES: [(Error, usize); 9] = [
+const EXTENT_CAUSES: [(Error, usize); 10] = [
     (Error::InvalidMemory, 1),
     (Error::WorkPending, 1),
     (Error::SlotNumber, 1),
@@ -86,8 +89,19 @@ const EXTENT_CAUSES: [(Error, usize); 9] = [
     (Error::ListLength, 1),
     (Error::BlockNumber, 1),
     (Error::NoExtent, 2),
+    (Error::ReservedForOthers, 1),
 ];
 const ACCEPTED_EXTENTS: usize = 3;
+
+/// The causes of reserve, in the same way.
+const RESERVE_CAUSES: [(Error, usize); 5] = [
+    (Error::InvalidMemory, 1),
+    (Error::WorkPending, 1),
+    (Error::SlotNumber, 1),
+    (Error::SlotNotIdle, 1),
+    (Error::OverReserved, 2),
+];
+const ACCEPTED_RESERVES: usize = 2;
 
 impl Aim {
     /// The aims of one round.
@@ -99,6 +113,7 @@ impl Aim {
         }
         aims.extend(aims_at(Call::Cost, ACCEPTED_COSTS, &COST_CAUSES));
         aims.extend(aims_at(Call::Extent, ACCEPTED_EXTENTS, &EXTENT_CAUSES));
+        aims.extend(aims_at(Call::Reserve, ACCEPTED_RESERVES, &RESERVE_CAUSES));
         aims
     }
 
@@ -107,11 +122,12 @@ impl Aim {
         matches!(self.error, Some(Error::WorkPending | Error::DiskMismatch))
     }
 
-    /// Whether the call is a transaction's, commit cost or an extent, which don't look at the disk.
+    /// Whether the call is a transaction's, commit cost, an extent or a reserve, which don't look at
+    /// the disk.
     pub fn is_of_a_transaction(&self) -> bool {
         match self.call {
             Call::Bench(operation) => TRANSACTION_CALLS.contains(&operation),
-            Call::Cost | Call::Extent => true,
+            Call::Cost | Call::Extent | Call::Reserve => true,
         }
     }
 }
@@ -149,11 +165,11 @@ impl Damage {
         self.with_company(aim)
     }
 
-    /// A commit cost or an extent is made beside a transaction call that is to be refused with the
-    /// same error, if there still is one, for that takes fewer lines.
+    /// A commit cost, an extent or a reserve is made beside a transaction call that is to be refused
+    /// with the same error, if there still is one, for that takes fewer lines.
     fn with_company(&self, aim: Aim) -> Aim {
         let company = match aim.call {
-            Call::Cost | Call::Extent if aim.error.is_some() => {
+            Call::Cost | Call::Extent | Call::Reserve if aim.error.is_some() => {
                 self.lacking_transaction_call(aim.error)
             }
             _ => None,

@@ -9,6 +9,7 @@ use crate::memory::Memory;
 
 const COST_IN: u32 = 3;
 const EXTENT_IN: u32 = 12;
+const RESERVE_IN: u32 = 12;
 const ANOTHER_IN: u32 = 2;
 
 /// A call that was made, with its numbers and its answer.
@@ -22,7 +23,8 @@ pub struct Made {
 
 impl Damage {
     /// Calls in the same scene, each if its aim at the same error is still to be reached. A commit
-    /// cost and an extent have the numbers of the call that was made, and are put otherwise too.
+    /// cost, an extent and a reserve have the slot of the call that was made, and are put otherwise
+    /// too.
     pub(super) fn call_beside(&mut self, made: Made) {
         let error = made.error;
         let lacks_cost = error.is_some() && self.lacks(Aim { error, call: Call::Cost });
@@ -35,6 +37,12 @@ impl Damage {
         if self.lacks(Aim { error, call: Call::Extent }) || self.random.one_in(EXTENT_IN) {
             let beside = self.extent_beside(made);
             self.strike_off(Aim { error: beside, call: Call::Extent });
+        }
+        let lacks_reserve = error.is_some() && self.lacks(Aim { error, call: Call::Reserve });
+        if lacks_reserve || self.random.one_in(RESERVE_IN) {
+            let (slot, blocks) = (self.slot_beside(made.slot), self.any_reservation());
+            let beside = self.reserve(slot, blocks);
+            self.strike_off(Aim { error: beside, call: Call::Reserve });
         }
         let is_followed = match error {
             Some(Error::InvalidMemory | Error::WorkPending) => self.random.one_in(ANOTHER_IN),
@@ -83,7 +91,7 @@ impl Damage {
         let any = self.any_extent_count();
         match (made.call, made.error) {
             (_, None) => {
-                let count = self.right_extent_count().unwrap_or(any);
+                let count = self.right_extent_count(slot).unwrap_or(any);
                 let near = self.near_in_volume(count);
                 self.extent(slot, count, near)
             }

@@ -10,7 +10,7 @@ use crate::test_line::TestLine;
 
 const WRONG_COUNTS: [u32; 9] = [65, 65, 66, 128, 256, 4096, 65_536, 1 << 31, u32::MAX];
 const EDGE_COUNTS: [u32; 6] = [0, 0, 1, 32, 63, 64];
-const SHORT_LIST_IN: u32 = 4;
+const SHORT_LIST_IN: u32 = 3;
 
 impl Damage {
     /// Brings about that a commit cost is refused with this error, or accepted, and gives its slot
@@ -23,7 +23,7 @@ impl Damage {
                 Some((self.large_wrong_slot(), self.any_cost_count()))
             }
             Some(Error::Count) => Some((self.slot_in(SlotState::Open)?, self.wrong_cost_count())),
-            Some(error @ Error::TooFewAvailable) => {
+            Some(error @ (Error::TooFewAvailable | Error::ReservedForOthers)) => {
                 self.prepare_refusal(error, Operation::Allocate)
             }
             Some(error) => {
@@ -41,7 +41,7 @@ impl Damage {
             self.shorten_list();
         }
         let slot = self.slot_in(SlotState::Open)?;
-        let most = self.available().min(MAX_COUNT);
+        let most = self.left_to(slot).min(MAX_COUNT);
         let count = match self.random.below(6) {
             0 => 0,
             1 => most,

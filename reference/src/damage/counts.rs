@@ -11,8 +11,8 @@ const GIVE_UP_IN: u32 = 4;
 
 impl Damage {
     /// A count for which there are blocks and places, if there are any.
-    pub(super) fn right_count(&mut self) -> Option<u32> {
-        let most = self.available().min(MAX_COUNT).min(self.state.places as u32);
+    pub(super) fn right_count(&mut self, slot: u32) -> Option<u32> {
+        let most = self.left_to(slot).min(MAX_COUNT).min(self.state.places as u32);
         (most > 0).then(|| 1 + self.random.below(most))
     }
 
@@ -37,6 +37,9 @@ impl Damage {
             return self.give_up_volume();
         }
         self.lengthen_list();
+        if self.available() >= MAX_COUNT {
+            self.give_up_reservations(slot);
+        }
         for _ in 0..MOST_ALLOCATES {
             if self.available() >= MAX_COUNT {
                 self.call(Operation::Allocate, slot, MAX_COUNT);

@@ -24,7 +24,10 @@ impl Damage {
     /// its count.
     pub(super) fn prepare_extent(&mut self, error: Option<Error>) -> Option<(u32, u32)> {
         match error {
-            None => Some((self.slot_for_extent()?, self.right_extent_count()?)),
+            None => {
+                let slot = self.slot_for_extent()?;
+                Some((slot, self.right_extent_count(slot)?))
+            }
             Some(Error::SlotNumber) => {
                 self.come_to_rest()?;
                 Some((self.large_wrong_slot(), self.any_extent_count()))
@@ -39,6 +42,11 @@ impl Damage {
                 let slot = self.slot_for_extent()?;
                 Some((slot, self.leave_no_extent(slot)?))
             }
+            Some(Error::ReservedForOthers) => {
+                let slot = self.slot_for_extent()?;
+                let most = longest(&self.ranges());
+                Some((slot, self.leave_to_others(slot, most)?))
+            }
             Some(error) => {
                 let (slot, _) = self.prepare_refusal(error, Operation::Allocate)?;
                 Some((slot, self.any_extent_count()))
@@ -47,8 +55,8 @@ impl Damage {
     }
 
     /// A count for which there are adjoining blocks and places, if there are any.
-    pub(super) fn right_extent_count(&mut self) -> Option<u32> {
-        let most = longest(&self.ranges()).min(MAX_COUNT);
+    pub(super) fn right_extent_count(&mut self, slot: u32) -> Option<u32> {
+        let most = longest(&self.ranges()).min(MAX_COUNT).min(self.left_to(slot));
         if most == 0 {
             return None;
         }
@@ -83,6 +91,9 @@ impl Damage {
             return self.give_up_volume();
         }
         self.lengthen_list();
+        if !breaking.is_empty() {
+            self.give_up_reservations(slot);
+        }
         for block in breaking {
             self.extent(slot, 1, block);
         }
@@ -94,7 +105,7 @@ impl Damage {
     pub(super) fn near_for(&mut self, error: Option<Error>, count: u32) -> u32 {
         let wrong = match error {
             Some(Error::BlockNumber) => true,
-            Some(Error::NoExtent) | None => false,
+            Some(Error::NoExtent | Error::ReservedForOthers) | None => false,
             Some(_) => self.random.one_in(WRONG_NEAR_IN),
         };
         if wrong {

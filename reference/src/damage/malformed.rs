@@ -9,7 +9,7 @@ use crate::line::Line;
 use crate::test_line::TestLine;
 
 const MOST_LINES: u32 = 3;
-const WRONG_LINES: [&str; 62] = [
+const WRONG_LINES: [&str; 72] = [
     "show ",
     " show",
     "show 0",
@@ -71,6 +71,16 @@ const WRONG_LINES: [&str; 62] = [
     "Cursor 0",
     "cursor 4294967296",
     "op=cursor seat=0 n=0",
+    "reserve",
+    "reserve 0",
+    "reserve 0 ",
+    "reserve 0 1 2",
+    "Reserve 0 1",
+    "reserve 0 4294967296",
+    "op=reserve seat=0 n=1",
+    "reservation 0",
+    "reservation 0 4294967296",
+    "drawn 0 4294967296",
     "seat 0 1",
 ];
 
@@ -101,7 +111,7 @@ impl Damage {
     fn line_out_of_range(&mut self) -> TestLine {
         let past = self.random.choose(&[0, 0, 1, u32::MAX - MAX_DISK_WORDS as u32]);
         let (slot, index, word) = (self.random.below(8), self.random.below(128), self.any_word());
-        match self.random.below(10) {
+        match self.random.below(12) {
             0 => TestLine::Disk { index: self.state.disk.len() as u32 + past, word },
             1 => TestLine::Length { words: MAX_DISK_WORDS as u32 + 1 + past / 2 },
             2 => TestLine::Sam { index: 128 + past, word },
@@ -111,6 +121,8 @@ impl Damage {
             6 => TestLine::State { slot: 8 + past, code: self.random.below(3) },
             7 => TestLine::State { slot, code: 3 + past },
             8 => TestLine::Pending { codes: [3 + past, slot, index, word] },
+            9 => TestLine::Reservation { slot: 8 + past, blocks: index },
+            10 => TestLine::Drawn { slot: 8 + past, blocks: index },
             _ => TestLine::List { places: LIST_PLACES as u32 + 1 + past },
         }
     }
@@ -127,6 +139,8 @@ impl Damage {
             TestLine::Pending { codes: [1, slot, 0, index] },
             TestLine::Cost { slot, count: index },
             TestLine::Extent { slot, count: 1, near: index },
+            TestLine::Reserve { slot, blocks: index },
+            TestLine::Reservation { slot, blocks: index },
         ]);
         let bytes = text::bytes(&mut self.random, &line);
         let random = &mut self.random;

@@ -1,14 +1,13 @@
 //! Small changes to the memory's bitmaps, slots, block count and cursor, most of which make it
-//! invalid.
+//! invalid. Those to reservations stand in their own file.
 
 use super::Damage;
 use crate::bitmap::Bitmap;
 use crate::codes::slot_state_code;
-use crate::line::Operation;
 use crate::memory::{Memory, Pending, SlotState};
 use crate::test_line::TestLine;
 
-const SPOILED_IN_WORK_IN: u32 = 3;
+const SPOILED_IN_WORK_IN: u32 = 2;
 /// Cursors that no volume has a block for.
 const CURSORS_ABOVE: [u32; 6] = [4096, 4097, 65_536, 1 << 31, u32::MAX - 1, u32::MAX];
 
@@ -22,18 +21,20 @@ enum Map {
 
 impl Damage {
     pub(super) fn damage_memory(&mut self) {
-        match self.random.below(15) {
+        match self.random.below(25) {
             0 | 1 => self.flip_a_bit(),
             2 => self.flip_an_outer_bit(),
-            3 => {
+            3 | 4 => {
                 let block = self.outer_block().unwrap_or(0);
                 self.flip_everywhere(block);
             }
-            4 | 5 => self.touch_by_several(),
-            6 | 7 => self.change_state(),
-            8 => self.change_blocks(),
-            9..=11 => self.change_pending(),
-            12 | 13 => self.spoil_cursor(),
+            5..=8 => self.touch_by_several(),
+            9 | 10 => self.change_state(),
+            11 => self.change_blocks(),
+            12..=14 => self.change_pending(),
+            15..=17 => self.spoil_cursor(),
+            18..=20 => self.spoil_reservations(),
+            21..=23 => self.spoil_drawn(),
             _ => self.replace_a_word(),
         }
     }
@@ -80,7 +81,7 @@ impl Damage {
         let missing = if at_rest { wanted - slots.len() } else { 0 };
         for _ in 0..missing {
             if let Some(slot) = self.choose_slot(SlotState::Idle) {
-                self.call(Operation::Start, slot, 0);
+                self.start_reserving(slot);
                 slots.push(slot);
             }
         }

@@ -23,7 +23,7 @@ impl Damage {
         self.status_one_in(STATUS_IN);
         for _ in 0..=self.random.below(MOST_CHANGES) {
             self.change_validly();
-            self.alter(TestLine::Status);
+            self.status_one_in(STATUS_IN);
             self.cost_one_in(COST_IN);
             self.extent_one_in(EXTENT_IN);
         }
@@ -32,8 +32,9 @@ impl Damage {
 
     /// Changes the memory so that it stays valid.
     pub(super) fn change_validly(&mut self) {
-        match self.random.below(5) {
+        match self.random.below(6) {
             _ if self.state.memory.blocks < LEAST_BLOCKS => self.move_the_end(),
+            5 => self.change_reservations_validly(),
             0 => {
                 let block = self.volume_block();
                 self.flip_everywhere(block);
@@ -42,6 +43,7 @@ impl Damage {
             2 => self.move_the_cursor(),
             _ => self.replace_a_word_everywhere(),
         }
+        self.fit_reservations();
     }
 
     /// Another cursor, often the last block: from there an allocate soon goes round to block 0.
@@ -74,6 +76,7 @@ impl Damage {
     pub(super) fn cut_off_the_end(&mut self) {
         let blocks = self.least_blocks();
         self.put_blocks(blocks);
+        self.fit_reservations();
     }
 
     /// Sets the block count, not 0, and before it a cursor that it would leave outside.

@@ -53,7 +53,7 @@ impl Damage {
         let Some(slot) = idle.filter(|_| at_rest) else {
             return self.choose_slot(SlotState::Precommitted);
         };
-        self.call(Operation::Start, slot, 0);
+        self.start_reserving(slot);
         if !self.random.one_in(UNTOUCHED_IN) {
             self.touch(slot);
         }

@@ -18,6 +18,7 @@ impl Damage {
         let arguments = match (aim.call, aim.error) {
             (Call::Cost, error) => self.prepare_cost(error)?,
             (Call::Extent, error) => self.prepare_extent(error)?,
+            (Call::Reserve, error) => self.prepare_reserve(error)?,
             (Call::Bench(operation), None) => self.prepare_acceptance(operation)?,
             (Call::Bench(operation), Some(error)) => self.prepare_refusal(error, operation)?,
         };
@@ -32,11 +33,12 @@ impl Damage {
         match operation {
             Operation::Start => Some((self.slot_in(SlotState::Idle)?, 0)),
             Operation::Allocate => {
-                let arguments = (self.slot_in(SlotState::Open)?, self.right_count()?);
+                let slot = self.slot_in(SlotState::Open)?;
+                let count = self.right_count(slot)?;
                 if !self.random.one_in(UNMOVED_CURSOR_IN) {
                     self.move_the_cursor();
                 }
-                Some(arguments)
+                Some((slot, count))
             }
             Operation::Deallocate => {
                 Some((self.slot_in(SlotState::Open)?, self.block_with(true, true)?))
@@ -135,6 +137,7 @@ impl Damage {
             Error::Count => Some(self.wrong_count()),
             Error::ListLength => Some(self.shorten_list()),
             Error::TooFewAvailable => self.leave_few_available(slot),
+            Error::ReservedForOthers => self.leave_to_others(slot, self.available()),
             Error::BlockNumber => Some(self.wrong_block()),
             Error::BlockNotAllocated => {
                 let com = self.random.one_in(2);

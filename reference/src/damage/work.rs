@@ -7,8 +7,11 @@ use crate::memory::{Memory, Pending, SlotState};
 
 /// Pending work with more stores left than this isn't run to its end.
 const MOST_STORES: u32 = 24;
+/// So many of five times the work is a commit, otherwise a recovery.
+const COMMITS_OF_5: u32 = 3;
 const MOST_TOUCHES: u32 = 4;
 const WRONG_ROLLBACK_IN: u32 = 3;
+const STATUS_IN_WORK_IN: u32 = 6;
 /// One in this many allocates has another cursor.
 const MOVED_CURSOR_IN: u32 = 4;
 
@@ -30,7 +33,7 @@ impl Damage {
     /// Sees to it that a commit or a recovery is pending, at any of its stores.
     pub(super) fn come_to_work(&mut self) -> Option<()> {
         if self.stores_left() == 0 {
-            if self.random.one_in(2) {
+            if self.random.below(5) < COMMITS_OF_5 {
                 self.begin_commit()?;
             } else {
                 self.write_log(Fault::Sound);
@@ -38,6 +41,7 @@ impl Damage {
             }
             let stores = self.random.below(self.stores_left());
             self.make_stores(stores.min(MOST_STORES));
+            self.status_one_in(STATUS_IN_WORK_IN);
         }
         (self.stores_left() > 0).then_some(())
     }
@@ -60,7 +64,7 @@ impl Damage {
                 self.call(Operation::Deallocate, slot, block);
             }
             _ => {
-                if let Some(count) = self.right_count() {
+                if let Some(count) = self.right_count(slot) {
                     if self.random.one_in(MOVED_CURSOR_IN) {
                         self.move_the_cursor();
                     }
@@ -81,7 +85,7 @@ impl Damage {
             self.roll_back(slot);
         }
         if self.state_of(slot) == SlotState::Idle && state != SlotState::Idle {
-            self.call(Operation::Start, slot, 0);
+            self.start_reserving(slot);
         }
         if state == SlotState::Precommitted {
             self.call(Operation::Precommit, slot, 0);

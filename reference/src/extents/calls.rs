@@ -10,14 +10,17 @@ use crate::ranges::{between_starts, longest};
 use crate::test_line::TestLine;
 
 const SHOW_IN: u32 = 70;
-const ALLOCATE_IN: u32 = 60;
+const ALLOCATE_IN: u32 = 55;
 /// One in this many extents is followed by an allocate, which carries on behind it.
 const FOLLOWED_IN: u32 = 30;
 const MOVED_CURSOR_IN: u32 = 2;
 const DEALLOCATE_IN: u32 = 60;
+const RESERVE_IN: u32 = 150;
+/// The same where all that is available is reserved for others.
+const RESERVE_IF_BLOCKED_IN: u32 = 6;
 const SHORT_LIST_IN: u32 = 70;
 const LONG_LIST_IN: u32 = 4;
-const NEW_START_IN: u32 = 60;
+const NEW_START_IN: u32 = 55;
 /// The same where no block is available.
 const NEW_START_IF_FULL_IN: u32 = 5;
 const PRECOMMIT_IN: u32 = 3;
@@ -37,6 +40,7 @@ impl Extents {
     pub(super) fn make_a_call(&mut self) {
         let full = longest(&self.ranges()) == 0;
         let new_start_in = if full { NEW_START_IF_FULL_IN } else { NEW_START_IN };
+        let reserve_in = if self.is_blocked() { RESERVE_IF_BLOCKED_IN } else { RESERVE_IN };
         let touched = self.touched_open_slots();
         if full && touched.is_empty() {
             self.extents_left = self.extents_left.min(MOST_IN_VAIN);
@@ -54,6 +58,8 @@ impl Extents {
             self.allocate_a_few();
         } else if self.random.one_in(DEALLOCATE_IN) {
             self.free_a_block();
+        } else if self.random.one_in(reserve_in) {
+            self.reserve_anew();
         } else {
             self.make_an_extent();
             if self.random.one_in(FOLLOWED_IN) {

@@ -1,5 +1,6 @@
 //! New volumes: valid memories that test lines make, often at the edges of words.
 
+use super::reserves::reserve_some;
 use super::textures::{sparse_texture, texture};
 use super::Extents;
 use crate::bitmap::Bitmap;
@@ -20,7 +21,7 @@ const MANY_WORDS: u32 = 32;
 /// On a volume of fewer blocks than these there isn't much to choose.
 const FEW_BLOCKS: u32 = 3;
 const FEW_EXTENTS: u32 = 20;
-const MANY_EXTENTS: (u32, u32) = (60, 100);
+const MANY_EXTENTS: (u32, u32) = (65, 115);
 const SHOW_IN: u32 = 4;
 
 /// How the blocks that aren't available come to be so. A slot that isn't at work has touched them,
@@ -48,6 +49,7 @@ impl Extents {
             open_slots(&mut self.random, &mut memory, workers);
         }
         memory.cursor = self.any_cursor(blocks);
+        reserve_some(&mut self.random, &mut memory);
         self.call(Operation::Crash, 0, 0);
         self.alter(TestLine::List { places: MAX_COUNT });
         memory_lines(&Memory::ZEROS, &memory).into_iter().for_each(|line| self.alter(line));
@@ -154,7 +156,7 @@ fn memory_of(random: &mut Random, blocks: u32, taken: &Bitmap, kind: Kind) -> Me
         let state =
             random.choose(&[SlotState::Precommitted, SlotState::Precommitted, SlotState::Open]);
         let slot = random.below(Memory::SLOTS as u32) as usize;
-        memory.slots[slot] = Slot { state, tam: memory.com };
+        memory.slots[slot] = Slot::unreserved(state, memory.com);
     }
     memory
 }
@@ -170,6 +172,6 @@ fn open_slots(random: &mut Random, memory: &mut Memory, wanted: u32) {
     for _ in 0..wanted {
         let idle = slots_in(memory, SlotState::Idle);
         let slot = random.choose(&idle) as usize;
-        memory.slots[slot] = Slot { state: SlotState::Open, tam: memory.sam };
+        memory.slots[slot] = Slot::unreserved(SlotState::Open, memory.sam);
     }
 }

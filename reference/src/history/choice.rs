@@ -29,6 +29,8 @@ const SHORT_REVOKE_IN: u32 = 2;
 const WORDS_AHEAD: u32 = 4;
 /// One in this many allocates that can reach the end of the volume ends there.
 const TO_THE_END_IN: u32 = 6;
+/// So many touches are frees where too few blocks are available for reservations.
+const SCARCE_FREE_PERCENT: u32 = 70;
 /// One in this many lines of an open slot is a revoke, and of a precommitted one a drop.
 const WRONG_REVOKE_IN: u32 = 100;
 const WRONG_DROP_IN: u32 = 8;
@@ -181,20 +183,25 @@ impl History {
     /// An allocate or a deallocate, whichever the phase wants and the volume has blocks for.
     fn choose_touch(&mut self, slot: u32) -> Line {
         let Memory { sam, com, .. } = self.bench.memory;
-        let available = self.bench.memory.available();
-        let wants_free = self.random.below(100) < self.phase.free_percent;
+        let available = self.available_to(slot);
+        let free_percent =
+            if self.is_scarce() { SCARCE_FREE_PERCENT } else { self.phase.free_percent };
+        let wants_free = self.random.below(100) < free_percent;
         let block = self.choose_block(&and_words(&sam, &com));
         match block {
             Some(block) if wants_free || available == 0 => line(Operation::Deallocate, slot, block),
             _ if available == 0 => line(Operation::Precommit, slot, 0),
-            _ => line(Operation::Allocate, slot, self.choose_count(available)),
+            _ => line(Operation::Allocate, slot, self.choose_count(slot, available)),
         }
     }
 
     /// Mostly not more blocks than are available. Where the end of the volume is near, it is often
     /// just reached, or passed by one block.
-    fn choose_count(&mut self, available: u32) -> u32 {
-        let count = 1 + self.random.below(self.phase.most_blocks);
+    fn choose_count(&mut self, slot: u32, available: u32) -> u32 {
+        if let Some(count) = self.count_at_a_limit(slot) {
+            return count;
+        }
+        let count = 1 + self.random.below(self.most_of_grant());
         let to_the_end = to_the_end(&self.bench.memory);
         if to_the_end <= MAX_COUNT && self.random.one_in(TO_THE_END_IN) {
             return self.random.choose(&[to_the_end.max(1), (to_the_end + 1).min(available)]);

@@ -26,14 +26,17 @@ impl History {
         let ranges = available_ranges(&self.bench.memory);
         let times = match self.bench.memory.pending {
             _ if self.bench.memory == Memory::ZEROS => LOST_IN,
-            Pending::Nothing if ranges.is_empty() => FULL_IN,
+            Pending::Nothing if ranges.is_empty() || self.is_scarce() => FULL_IN,
             Pending::Nothing => AT_REST_IN,
             Pending::Commit { .. } | Pending::Recovery { .. } => IN_WORK_IN,
         };
         if !self.random.one_in(times) {
             return None;
         }
-        let (slot, count) = (self.slot_for_extent(), self.count_of_extent(longest(&ranges)));
+        let slot = self.slot_for_extent();
+        let at_a_limit = self.count_at_a_limit(slot);
+        let most = longest(&ranges).min(self.most_of_extent());
+        let count = at_a_limit.unwrap_or_else(|| self.count_of_extent(most));
         let near = self.near_of_extent(&ranges, count);
         let _ = allocate_extent(&mut self.bench.memory, slot, count, near, &mut self.bench.list);
         Some(format!("extent {slot} {count} {near}").into_bytes())

@@ -21,7 +21,7 @@ struct Grant {
 #[derive(Default, Debug)]
 pub struct SeenAllocates {
     /// By the answer's number, accepted ones as 0.
-    pub answers: [u32; 23],
+    pub answers: [u32; 25],
     /// Accepted with the last block below the cursor.
     pub went_round: u32,
     /// Of those, with the first one from the cursor on, so that the list isn't rising.
@@ -43,6 +43,11 @@ pub struct SeenAllocates {
 }
 
 impl SeenAllocates {
+    /// Another sequence begins.
+    pub fn forget_the_past(&mut self) {
+        (self.last, self.is_put) = (None, false);
+    }
+
     /// Checks and counts a line that was run.
     pub fn note(
         &mut self,

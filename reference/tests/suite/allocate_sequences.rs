@@ -14,13 +14,20 @@ const LINES: usize = 12_000;
 
 /// Runs lines and checks each allocate, and the cursor after each line.
 fn observe(lines: impl Iterator<Item = Vec<u8>>) -> SeenAllocates {
-    let (mut inspector, mut seen) = (Inspector::new(), SeenAllocates::default());
+    let mut seen = SeenAllocates::default();
+    observe_too(&mut seen, lines);
+    seen
+}
+
+/// The same, counted together with what was seen in other sequences.
+fn observe_too(seen: &mut SeenAllocates, lines: impl Iterator<Item = Vec<u8>>) {
+    let mut inspector = Inspector::new();
+    seen.forget_the_past();
     for line in lines {
         let before = inspector.clone();
         let answer = inspector.run(&line, &mut String::new());
         seen.note(&line, &before, &inspector, answer);
     }
-    seen
 }
 
 #[test]
@@ -53,12 +60,11 @@ fn allocates_of_small_volumes_go_round_often() {
 
 #[test]
 fn allocates_of_damaging_sequences_begin_anywhere() {
-    for seed in 0..8 {
-        let seen = observe(Damage::new(seed).take(4000));
-        println!("seed {seed}: {seen:?}");
-        assert!(seen.put >= 20 && seen.from_the_last >= 10, "{seen:?}");
-        assert!(seen.went_round >= 10 && seen.to_the_end >= 3, "{seen:?}");
-    }
+    let mut seen = SeenAllocates::default();
+    (0..8).for_each(|seed| observe_too(&mut seen, Damage::new(seed).take(4000)));
+    println!("{seen:?}");
+    assert!(seen.put >= 8 * 20 && seen.from_the_last >= 8 * 10, "{seen:?}");
+    assert!(seen.went_round >= 8 * 10 && seen.to_the_end >= 8 * 3, "{seen:?}");
     let seen = observe(Damage::new(9).take(60_000));
     println!("{seen:?}");
     assert!(seen.put >= 350 && seen.from_the_last >= 200 && seen.went_round >= 200, "{seen:?}");
@@ -68,19 +74,19 @@ fn allocates_of_damaging_sequences_begin_anywhere() {
 
 #[test]
 fn allocates_of_sequences_of_extents_carry_on_behind_these() {
-    for seed in 1..=4 {
-        let seen = observe(Extents::new(seed).take(10_000));
-        println!("seed {seed}: {seen:?}");
-        assert!(seen.answers[0] >= 180 && seen.behind_extents >= 130, "{seen:?}");
-        assert!(seen.went_round >= 35 && seen.from_the_last >= 10 && seen.put >= 30, "{seen:?}");
-    }
+    let mut seen = SeenAllocates::default();
+    (1..=4).for_each(|seed| observe_too(&mut seen, Extents::new(seed).take(10_000)));
+    println!("{seen:?}");
+    assert!(seen.answers[0] >= 4 * 180 && seen.behind_extents >= 4 * 130, "{seen:?}");
+    assert!(seen.went_round >= 4 * 35 && seen.from_the_last >= 4 * 10, "{seen:?}");
+    assert!(seen.put >= 4 * 30, "{seen:?}");
 }
 
 #[test]
 fn random_memories_read_block_by_block() {
     let mut random = Random::new(61);
     let (mut accepted, mut round, mut to_the_end, mut refused) = (0, 0, 0, 0);
-    for time in 0..3000 {
+    for time in 0..5000 {
         let any = 1 + random.below(4096);
         let blocks = [1, 31, 32, 33, 100, 4095, 4096].get(time % 8).copied().unwrap_or(any);
         let memory = valid_memory(&mut random, blocks);

@@ -2,6 +2,7 @@
 //! on after any call.
 
 use crate::extents::put;
+use crate::reserves::leaves_others_theirs;
 use crate::slots::ready_slot;
 use reference::line::Operation;
 use reference::{Call, Error, Memory, SlotState};
@@ -19,7 +20,10 @@ pub fn allocate_by_blocks(
         SlotState::Precommitted => Err(Error::SlotPrecommitted),
         SlotState::Open if count == 0 || count > 64 => Err(Error::Count),
         SlotState::Open if places < count as usize => Err(Error::ListLength),
-        SlotState::Open => first_met(memory, count as usize).ok_or(Error::TooFewAvailable),
+        SlotState::Open => {
+            let listed = first_met(memory, count as usize).ok_or(Error::TooFewAvailable)?;
+            leaves_others_theirs(memory, slot, count).map(|()| listed)
+        }
     }
 }
 
@@ -56,12 +60,18 @@ pub fn cursor_after(before: &Memory, call: &Call) -> u32 {
     }
 }
 
-/// The memory with these blocks granted to the slot, in this order.
+/// The memory with these blocks granted to the slot, in this order. Each is drawn from the slot's
+/// reservation as long as there is something left of it.
 pub fn granted(before: &Memory, slot: u32, listed: &[u32]) -> Memory {
     let mut after = before.clone();
     for block in listed {
         put(&mut after.com, *block);
-        put(&mut after.slots[slot as usize].tam, *block);
+        let slot = &mut after.slots[slot as usize];
+        put(&mut slot.tam, *block);
+        if slot.reservation > 0 {
+            slot.reservation -= 1;
+            slot.drawn += 1;
+        }
         after.cursor = block_after(before, *block);
     }
     after

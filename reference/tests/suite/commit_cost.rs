@@ -15,7 +15,7 @@ fn with_touched(blocks: u32, touched: u32) -> Memory {
         let bitmap = if block % 2 == 0 { &mut memory.sam } else { &mut memory.com };
         bitmap.words[block as usize / 32] |= 1 << (block % 32);
     }
-    memory.slots[5] = Slot { state: SlotState::Open, tam: memory.com };
+    memory.slots[5] = Slot::unreserved(SlotState::Open, memory.com);
     assert!(memory.is_valid());
     memory
 }

@@ -1,31 +1,61 @@
 //! The comparison of an allocator with the ledger, after every call of a history.
 
 use crate::allocates::{allocate_by_blocks, cursor_after};
-use crate::extents::Asked;
+use crate::costs::cost_by_blocks;
+use crate::extents::{extent_by_blocks, Asked};
+use crate::reserves::{reservations, reservations_after, reserve_by_blocks};
 use crate::rollbacks::answer_by_words;
 use reference::bench::Bench;
-use reference::history::{History, Shape};
+use reference::history::{with_cost, History, Shape};
 use reference::line::{parse, Line, Operation};
 use reference::test_line::{self, TestLine};
 use reference::{
-    allocate_extent, commit_cost, open, store, Call, Error, Ledger, Memory, BITMAP_START, LOG_START,
+    allocate_extent, commit_cost, open, reserve, store, Call, Error, Ledger, Memory, BITMAP_START,
+    LOG_START,
 };
 
 /// How an allocator takes a line in form.
 pub type Step = fn(&mut Bench, &Line) -> Result<u32, Error>;
 /// How it takes an extent.
 pub type ExtentStep = fn(&mut Bench, Asked) -> Result<u32, Error>;
+/// How it takes a slot and a number: a commit cost or a reserve.
+pub type SlotStep = fn(&mut Bench, u32, u32) -> Result<u32, Error>;
+
+/// How an allocator takes each kind of call.
+#[derive(Clone, Copy)]
+pub struct Steps {
+    pub call: Step,
+    pub extent: ExtentStep,
+    pub cost: SlotStep,
+    pub reserve: SlotStep,
+}
+
+impl Steps {
+    /// The right allocator's.
+    pub const RIGHT: Steps = Steps {
+        call: Bench::call,
+        extent: right_extent,
+        cost: |bench, slot, count| commit_cost(&bench.memory, slot, count),
+        reserve: right_reserve,
+    };
+}
 
 /// A history that stays within the premises of demand 3.
 pub fn history(seed: u64) -> History {
-    let shape = Shape { blocks: 0, malformed: false, reformats: false, extents: false };
+    let shape = Shape::plain(0);
     History::new(seed, shape).unwrap()
 }
 
 /// The same with extent lines.
 pub fn history_with_extents(seed: u64) -> History {
-    let shape = Shape { blocks: 0, malformed: false, reformats: false, extents: true };
+    let shape = Shape { extents: true, ..Shape::plain(0) };
     History::new(seed, shape).unwrap()
+}
+
+/// The same with reserve lines and `cost` lines too.
+pub fn history_with_reserves(seed: u64, lines: usize) -> impl Iterator<Item = Vec<u8>> {
+    let shape = Shape { extents: true, reserves: true, ..Shape::plain(0) };
+    with_cost(seed, History::new(seed, shape).unwrap().take(lines))
 }
 
 /// What the comparison finds wrong in the first lines of a history, if anything.
@@ -33,49 +63,66 @@ pub fn fault_in_history(seed: u64, lines: usize, step: Step) -> Option<&'static 
     fault_in_lines(history(seed).take(lines), step)
 }
 
-/// What it finds wrong in bench lines in form and in `cost` and `extent` lines.
+/// What it finds wrong in bench lines in form and in `cost`, `extent` and `reserve` lines.
 pub fn fault_in_lines(lines: impl Iterator<Item = Vec<u8>>, step: Step) -> Option<&'static str> {
-    fault_of_steps(lines, step, right_extent)
+    fault_of_steps(lines, Steps { call: step, ..Steps::RIGHT })
 }
 
-/// The same with an allocator that takes extents in its own way. Commit costs are calls too, of
-/// which the ledger is told nothing.
+/// The same with an allocator that takes each kind of call in its own way.
 pub fn fault_of_steps(
     mut lines: impl Iterator<Item = Vec<u8>>,
-    step: Step,
-    extent_step: ExtentStep,
+    steps: Steps,
 ) -> Option<&'static str> {
     let mut bench = Bench::new();
     let mut ledger = Ledger::new();
     lines.find_map(|line| {
         let before = bench.memory.clone();
-        let mut wrong_answer = None;
-        match test_line::parse(&line) {
-            Some(TestLine::Cost { slot, count }) => {
-                let _ = commit_cost(&bench.memory, slot, count);
-            }
-            Some(TestLine::Extent { slot, count, near }) => {
-                let answer = extent_step(&mut bench, Asked { slot, count, near });
-                let listed = if answer.is_ok() { &bench.list[..count as usize] } else { &[] };
-                let call = Call::extent(slot, answer.is_ok(), listed);
-                ledger.record(&call);
-                wrong_answer = wrong_cursor(&before, &bench.memory, &call);
-            }
-            _ => {
-                let line = parse(&line).unwrap();
-                let answer = step(&mut bench, &line);
-                record(&mut ledger, &line, answer, &bench.list);
-                wrong_answer = wrong_rollback(&before, &line, answer)
-                    .or_else(|| wrong_search(&before, &bench, &line, answer));
-            }
-        }
-        fault(&bench, &ledger).or_else(|| invalid_memory(&bench)).or(wrong_answer)
+        let (answer, wrong_answer) = take_line(&mut bench, &mut ledger, &line, steps);
+        fault(&bench, &ledger)
+            .or_else(|| invalid_memory(&bench))
+            .or(wrong_answer)
+            .or_else(|| wrong_refusal(&before, &line, answer))
+            .or_else(|| wrong_reservations(&before, &bench.memory, &line, answer))
     })
+}
+
+/// Takes a line and enters it in the ledger. Commit costs and reserves are calls too, of which the
+/// ledger is told nothing. It gives the answer, and what is wrong with it.
+fn take_line(
+    bench: &mut Bench,
+    ledger: &mut Ledger,
+    line: &[u8],
+    steps: Steps,
+) -> (Result<u32, Error>, Option<&'static str>) {
+    let before = bench.memory.clone();
+    match test_line::parse(line) {
+        Some(TestLine::Cost { slot, count }) => ((steps.cost)(bench, slot, count), None),
+        Some(TestLine::Reserve { slot, blocks }) => ((steps.reserve)(bench, slot, blocks), None),
+        Some(TestLine::Extent { slot, count, near }) => {
+            let answer = (steps.extent)(bench, Asked { slot, count, near });
+            let listed = if answer.is_ok() { &bench.list[..count as usize] } else { &[] };
+            let call = Call::extent(slot, answer.is_ok(), listed);
+            ledger.record(&call);
+            (answer, wrong_cursor(&before, &bench.memory, &call))
+        }
+        _ => {
+            let line = parse(line).unwrap();
+            let answer = (steps.call)(bench, &line);
+            record(ledger, &line, answer, &bench.list);
+            let wrong = wrong_rollback(&before, &line, answer)
+                .or_else(|| wrong_search(&before, bench, &line, answer));
+            (answer, wrong)
+        }
+    }
 }
 
 pub fn right_extent(bench: &mut Bench, asked: Asked) -> Result<u32, Error> {
     let Asked { slot, count, near } = asked;
     allocate_extent(&mut bench.memory, slot, count, near, &mut bench.list)
+}
+
+pub fn right_reserve(bench: &mut Bench, slot: u32, blocks: u32) -> Result<u32, Error> {
+    reserve(&mut bench.memory, slot, blocks).map(|()| 0)
 }
 
 /// Enters a line in form with its answer and, for an allocate, the list that it was lent.
@@ -167,4 +214,39 @@ fn wrong_search(
 
 fn wrong_cursor(before: &Memory, after: &Memory, call: &Call) -> Option<&'static str> {
     (after.cursor != cursor_after(before, call)).then_some("the next search begins elsewhere")
+}
+
+/// A grant, a commit cost or a reserve that is refused is refused with the number that the documents
+/// give it. The ledger takes any refusal.
+fn wrong_refusal(before: &Memory, line: &[u8], answer: Result<u32, Error>) -> Option<&'static str> {
+    let error = answer.err()?;
+    let places = Bench::new().list.len();
+    let expected = match (parse(line), test_line::parse(line)) {
+        (Some(Line { operation: Operation::Allocate, slot, number }), _) => {
+            allocate_by_blocks(before, places, slot, number).err()
+        }
+        (_, Some(TestLine::Extent { slot, count, near })) => {
+            extent_by_blocks(before, places, Asked { slot, count, near }).err()
+        }
+        (_, Some(TestLine::Cost { slot, count })) => cost_by_blocks(before, slot, count).err(),
+        (_, Some(TestLine::Reserve { slot, blocks })) => {
+            reserve_by_blocks(before, slot, blocks).err()
+        }
+        _ => return None,
+    };
+    (expected != Some(error)).then_some("a call has another refusal")
+}
+
+/// The ledger knows nothing of reservations.
+fn wrong_reservations(
+    before: &Memory,
+    after: &Memory,
+    line: &[u8],
+    answer: Result<u32, Error>,
+) -> Option<&'static str> {
+    let expected = match answer {
+        Ok(value) => reservations_after(before, line, value),
+        Err(_) => reservations(before),
+    };
+    (reservations(after) != expected).then_some("a slot has another reservation or has drawn more")
 }

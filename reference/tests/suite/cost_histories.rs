@@ -16,7 +16,7 @@ const HISTORIES: [(u64, u32); 7] =
     [(1, 0), (2, 0), (3, 0), (4, 33), (5, 200), (6, 1000), (8, 4096)];
 
 fn plain(seed: u64, blocks: u32, malformed: bool) -> Vec<Vec<u8>> {
-    let shape = Shape { blocks, malformed, reformats: true, extents: false };
+    let shape = Shape { malformed, reformats: true, ..Shape::plain(blocks) };
     History::new(seed, shape).unwrap().take(LINES).collect()
 }
 
@@ -127,7 +127,7 @@ fn the_promise_is_kept_in_many_chains() {
 fn cost_lines_get_each_of_their_answers() {
     for (seed, blocks) in HISTORIES {
         let mut inspector = Inspector::new();
-        let mut answers = [0; 22];
+        let mut answers = [0; 25];
         for line in with_costs(seed, &plain(seed, blocks, false)) {
             let answer = inspector.run(&line, &mut String::new());
             if cost_of(&line).is_some() {

@@ -121,7 +121,7 @@ fn the_bench_program_does_not_know_it() {
 #[test]
 fn it_answers_by_document_02_and_alters_nothing_in_any_state() {
     let mut inspector = Inspector::new();
-    let mut answers = [0; 22];
+    let mut answers = [0; 25];
     for line in Damage::new(13).take(6000) {
         let _ = inspector.run(&line, &mut String::new());
         let near = inspector.memory.available();
@@ -139,6 +139,6 @@ fn it_answers_by_document_02_and_alters_nothing_in_any_state() {
         }
     }
     println!("{answers:?}");
-    assert!([0, 1, 8, 10, 12, 13, 15, 17].iter().all(|code| answers[*code] >= 1000));
-    assert_eq!(answers[2..8].iter().chain(&answers[18..]).sum::<u32>(), 0);
+    assert!([0, 1, 8, 10, 12, 13, 15, 17, 24].iter().all(|code| answers[*code] >= 1000));
+    assert_eq!(answers[2..8].iter().chain(&answers[18..24]).sum::<u32>(), 0);
 }

@@ -8,7 +8,7 @@ use reference::Error;
 #[derive(Default, Debug)]
 pub struct SeenCosts {
     /// By the answer's number, accepted ones as 0.
-    pub answers: [u32; 22],
+    pub answers: [u32; 25],
     /// Accepted with t + n of 0, from 1 to W - 1, of W, and above W.
     pub by_touched: [u32; 4],
     /// Accepted with two or more active slots.

@@ -1,12 +1,13 @@
 //! The commit cost as document 02 says it, one block at a time.
 
 use crate::counts::counts_by_blocks;
+use crate::reserves::leaves_others_theirs;
 use crate::slots::ready_slot;
 use reference::{Error, Memory, Slot, SlotState};
 
 /// What commit cost is to answer: its causes in number order, then its number.
-pub fn cost_by_blocks(memory: &Memory, slot: u32, count: u32) -> Result<u32, Error> {
-    let slot = ready_slot(memory, slot)?;
+pub fn cost_by_blocks(memory: &Memory, number: u32, count: u32) -> Result<u32, Error> {
+    let slot = ready_slot(memory, number)?;
     match slot.state {
         SlotState::Idle => Err(Error::SlotIdle),
         SlotState::Precommitted => Err(Error::SlotPrecommitted),
@@ -14,7 +15,8 @@ pub fn cost_by_blocks(memory: &Memory, slot: u32, count: u32) -> Result<u32, Err
         SlotState::Open if counts_by_blocks(memory).available < count => {
             Err(Error::TooFewAvailable)
         }
-        SlotState::Open => Ok(stores(touched_by_blocks(memory, slot) + count, memory.blocks)),
+        SlotState::Open => leaves_others_theirs(memory, number, count)
+            .map(|()| stores(touched_by_blocks(memory, slot) + count, memory.blocks)),
     }
 }
 

@@ -1,11 +1,12 @@
 //! The damaging sequences reach each cause for each call that it names, and in many ways.
 
-use crate::damage_observer::observe;
+use crate::damage_observer::{observe, Seen};
+use crate::reserve_observer::SeenReserves;
 use reference::line::Operation;
 
-/// Document 01's table with drop and revoke in rollback's place (document 02, job 5): the calls that
-/// each of the causes 1 to 20 names.
-const CALLS: [&str; 20] = [
+/// Document 01's table with drop and revoke in rollback's place (document 02, job 5): the calls of
+/// bench lines that each of the causes 1 to 24 names.
+const CALLS: [&str; 24] = [
     "start alloc free pre commit drop revoke store stat",
     "format open store",
     "open",
@@ -26,73 +27,178 @@ const CALLS: [&str; 20] = [
     "free",
     "free",
     "free",
+    "",
+    "",
+    "",
+    "alloc",
 ];
 
 /// The causes of commit cost.
-const COST_CAUSES: [usize; 7] = [1, 8, 10, 12, 13, 15, 17];
+const COST_CAUSES: [usize; 8] = [1, 8, 10, 12, 13, 15, 17, 24];
 
 /// The causes of allocate extent.
-const EXTENT_CAUSES: [usize; 9] = [1, 8, 10, 12, 13, 15, 16, 18, 22];
+const EXTENT_CAUSES: [usize; 10] = [1, 8, 10, 12, 13, 15, 16, 18, 22, 24];
 
-/// Every call that a cause names is refused for it this often, an extent too, commit cost twice as
-/// often, and no other call.
-fn assert_reached(seed: u64, lines: usize, least: u32) {
-    let seen = observe(seed, lines);
-    for (code, calls) in (1..).zip(CALLS) {
-        for operation in Operation::ALL {
-            let times = seen.refused[code][operation as usize];
-            let named = calls.split(' ').any(|word| word == operation.word());
-            let right = if named { times >= least } else { times == 0 };
-            assert!(right, "{} gets {code} {times} times in seed {seed}", operation.word());
+/// The causes of reserve.
+const RESERVE_CAUSES: [usize; 5] = [1, 8, 10, 11, 23];
+
+/// How often each call got each answer in some sequences.
+#[derive(Default)]
+struct Answers {
+    refused: [[u32; Operation::ALL.len()]; 25],
+    costs: [u32; 25],
+    extents: [u32; 25],
+    reserves: [u32; 25],
+    not_in_form: u32,
+}
+
+impl Answers {
+    fn add(&mut self, seen: &Seen) {
+        let add = |all: &mut [u32], times: &[u32]| {
+            all.iter_mut().zip(times).for_each(|(all, times)| *all += times);
+        };
+        self.refused.iter_mut().zip(&seen.refused).for_each(|(all, times)| add(all, times));
+        add(&mut self.costs, &seen.costs.answers);
+        add(&mut self.extents, &seen.extents.answers);
+        add(&mut self.reserves, &seen.reserves.answers);
+        self.not_in_form += seen.not_in_form + seen.out_of_range;
+    }
+
+    /// Every call that a cause names is refused for it this often, an extent and a reserve too,
+    /// commit cost twice as often, and no other call.
+    fn assert_reached(&self, least: u32) {
+        for (code, calls) in (1..).zip(CALLS) {
+            for operation in Operation::ALL {
+                let times = self.refused[code][operation as usize];
+                let named = calls.split(' ').any(|word| word == operation.word());
+                let right = if named { times >= least } else { times == 0 };
+                assert!(right, "{} gets {code} {times} times", operation.word());
+            }
         }
-    }
-    assert!(seen.not_in_form + seen.out_of_range >= least, "cause 21 in seed {seed}");
-    println!("seed {seed}: {:?}", seen.costs.answers);
-    for (code, times) in seen.costs.answers.into_iter().enumerate().skip(1) {
-        let right = if COST_CAUSES.contains(&code) { times >= 2 * least } else { times == 0 };
-        assert!(right, "cost gets {code} {times} times in seed {seed}");
-    }
-    println!("seed {seed}: {:?}", seen.extents.answers);
-    for (code, times) in seen.extents.answers.into_iter().enumerate().skip(1) {
-        let right = if EXTENT_CAUSES.contains(&code) { times >= least } else { times == 0 };
-        assert!(right, "an extent gets {code} {times} times in seed {seed}");
+        assert!(self.not_in_form >= least, "cause 21");
+        for (call, answers, causes, least) in [
+            ("cost", self.costs, COST_CAUSES.as_slice(), 2 * least),
+            ("extent", self.extents, &EXTENT_CAUSES, least),
+            ("reserve", self.reserves, &RESERVE_CAUSES, least),
+        ] {
+            println!("{call}: {answers:?}");
+            for (code, times) in answers.into_iter().enumerate().skip(1) {
+                let right = if causes.contains(&code) { times >= least } else { times == 0 };
+                assert!(right, "{call} gets {code} {times} times");
+            }
+        }
     }
 }
 
 #[test]
 fn every_cause_is_reached_for_every_call_that_it_names() {
-    (1..9).for_each(|seed| assert_reached(seed, 3000, 4));
-    assert_reached(19, 60_000, 75);
+    let mut all = Answers::default();
+    for seed in 1..9 {
+        let seen = observe(seed, 3000);
+        let mut alone = Answers::default();
+        alone.add(&seen);
+        alone.assert_reached(1);
+        all.add(&seen);
+    }
+    all.assert_reached(8 * 4);
+    let mut long = Answers::default();
+    long.add(&observe(19, 60_000));
+    long.assert_reached(75);
+}
+
+/// Three long sequences, and what was counted in all of them.
+struct Long(Vec<Seen>);
+
+impl Long {
+    const SEQUENCES: u32 = 3;
+
+    fn observe() -> Long {
+        Long((18..18 + u64::from(Long::SEQUENCES)).map(|seed| observe(seed, 60_000)).collect())
+    }
+
+    /// These counts together are at least so many for each sequence.
+    fn assert_often<const COUNTS: usize>(
+        &self,
+        least: u32,
+        counts: impl Fn(&Seen) -> [u32; COUNTS],
+    ) {
+        let mut all = [0; COUNTS];
+        for seen in &self.0 {
+            all.iter_mut().zip(counts(seen)).for_each(|(all, times)| *all += times);
+        }
+        assert!(all.iter().all(|times| *times >= Long::SEQUENCES * least), "{all:?}, {least} each");
+    }
 }
 
 #[test]
 fn the_damage_is_of_many_kinds() {
-    let seen = observe(18, 60_000);
-    println!("{seen:?}");
-    assert!(seen.not_in_form >= 200 && seen.out_of_range >= 100 && seen.shows >= 6000);
-    assert!(seen.finished_commits >= 200 && seen.finished_recoveries >= 200);
-    assert!(seen.busy >= 1000);
-    assert!(seen.several_touches >= 50 && seen.outer_bits >= 50);
-    assert!(seen.cursors.iter().flatten().all(|times| *times >= 20));
-    assert!(seen.cursors_not_in_form >= 20);
+    let long = Long::observe();
+    long.assert_often(200, |seen| [seen.not_in_form]);
+    long.assert_often(100, |seen| [seen.out_of_range]);
+    long.assert_often(6000, |seen| [seen.shows]);
+    long.assert_often(200, |seen| [seen.finished_commits, seen.finished_recoveries]);
+    long.assert_often(1000, |seen| [seen.busy]);
+    long.assert_often(50, |seen| [seen.several_touches, seen.outer_bits]);
+    long.assert_often(20, |Seen { cursors: [m, above], .. }| [m[0], m[1], above[0], above[1]]);
+    long.assert_often(20, |seen| [seen.cursors_not_in_form]);
+    long.assert_often(20, |seen| seen.log_faults);
+    long.assert_often(75, |seen| seen.mismatches);
+    long.assert_often(200, |seen| [seen.loose_stores]);
+    long.assert_often(10, |seen| [seen.loose_outer_bits]);
+    long.assert_often(20, |seen| [seen.empty_lists]);
+    let seen = &long.0[0];
     assert!([0, 1, 385, 387, 400].iter().all(|length| seen.lengths.contains(length)));
-    assert!(seen.log_faults.iter().all(|times| *times >= 20));
-    assert!(seen.mismatches.iter().all(|times| *times >= 75));
     let [in_commits, in_recoveries] = &seen.mismatches_at;
     assert!(in_commits.iter().filter(|done| **done > 100).count() >= 10);
     assert!((0..5).all(|done| in_commits.contains(&done) && in_recoveries.contains(&done)));
     assert!(in_recoveries.iter().any(|done| *done > 10));
-    assert!(seen.loose_stores >= 200 && seen.loose_outer_bits >= 10);
-    assert!(seen.empty_lists >= 20);
+}
+
+#[test]
+fn reservations_are_damaged_and_used_in_many_ways() {
+    let long = Long::observe();
+    long.0.iter().for_each(|seen| println!("{:?} {:?} {:?}", seen.sums, seen.drawn, seen.reserves));
+    for kind in 0..3 {
+        long.assert_often(13, |seen| seen.sums[kind]);
+    }
+    for kind in 0..2 {
+        long.assert_often(7, |seen| seen.drawn[kind]);
+    }
+    let often = |least: u32, count: fn(&SeenReserves) -> u32| {
+        long.assert_often(least, |seen| [count(&seen.reserves)]);
+    };
+    often(350, |seen| seen.answers[0]);
+    often(250, |seen| seen.answers[23]);
+    often(100, |seen| seen.several_causes);
+    often(8, |seen| seen.raised);
+    often(8, |seen| seen.lowered);
+    often(15, |seen| seen.given_up);
+    often(80, |seen| seen.just_fitting);
+    often(60, |seen| seen.one_more);
+    often(8, |seen| seen.wrapping);
+    often(60, |seen| seen.beside_others);
+    often(40, |seen| seen.beside_drawn);
+    often(80, |seen| seen.altered);
+    often(100, |seen| seen.one_beyond);
+    often(40, |seen| seen.to_the_limit);
+    often(8, |seen| seen.drawn_dropped);
+    often(8, |seen| seen.drawn_revoked);
+    often(12, |seen| seen.drawn_committed);
+    often(20, |seen| seen.partly_drawn);
+    often(150, |seen| seen.wiped);
+    often(60, |seen| seen.not_in_form);
+    long.assert_often(100, |seen| seen.reserves.refused_24);
+    long.assert_often(20, |seen| seen.reserves.grants);
 }
 
 #[test]
 fn status_lines_stand_in_states_of_many_kinds() {
-    for seed in 0..8 {
-        let seen = observe(seed, 3000).statuses;
-        assert!(seen.accepted >= 150 && seen.refused >= 30, "seed {seed}: {seen:?}");
-        assert!(seen.with_all >= 20 && seen.altered_with_all >= 4, "seed {seed}: {seen:?}");
-    }
+    let seen: Vec<_> = (0..8).map(|seed| observe(seed, 3000).statuses).collect();
+    println!("{seen:?}");
+    assert!(seen.iter().map(|seen| seen.accepted).sum::<u32>() >= 8 * 150);
+    assert!(seen.iter().map(|seen| seen.refused).sum::<u32>() >= 8 * 30);
+    assert!(seen.iter().map(|seen| seen.with_all).sum::<u32>() >= 8 * 20);
+    assert!(seen.iter().map(|seen| seen.altered_with_all).sum::<u32>() >= 8 * 4);
     let seen = observe(18, 60_000).statuses;
     println!("{seen:?}");
     assert!(seen.accepted >= 3000 && seen.refused >= 800 && seen.not_in_form >= 30);
@@ -104,11 +210,12 @@ fn status_lines_stand_in_states_of_many_kinds() {
 
 #[test]
 fn cost_lines_stand_in_states_of_many_kinds() {
-    for seed in 0..8 {
-        let seen = observe(seed, 3000).costs;
-        assert!(seen.answers[0] >= 20 && seen.altered >= 5, "seed {seed}: {seen:?}");
-        assert!(seen.busy >= 10 && seen.several_causes >= 30, "seed {seed}: {seen:?}");
-    }
+    let seen: Vec<_> = (0..8).map(|seed| observe(seed, 3000).costs).collect();
+    println!("{seen:?}");
+    assert!(seen.iter().map(|seen| seen.answers[0]).sum::<u32>() >= 8 * 20);
+    assert!(seen.iter().map(|seen| seen.altered).sum::<u32>() >= 8 * 5);
+    assert!(seen.iter().map(|seen| seen.busy).sum::<u32>() >= 8 * 10);
+    assert!(seen.iter().map(|seen| seen.several_causes).sum::<u32>() >= 8 * 30);
     let seen = observe(18, 60_000).costs;
     println!("{seen:?}");
     assert!(seen.answers[0] >= 500 && seen.several_causes >= 800 && seen.not_in_form >= 100);
@@ -119,7 +226,7 @@ fn cost_lines_stand_in_states_of_many_kinds() {
 
 #[test]
 fn six_sequences_of_4000_lines_reach_each_cause_of_an_extent_dozens_of_times() {
-    let mut answers = [0; 23];
+    let mut answers = [0; 25];
     for seed in 1..=6 {
         let seen = observe(seed, 4000).extents.answers;
         answers.iter_mut().zip(seen).for_each(|(all, times)| *all += times);
@@ -131,11 +238,11 @@ fn six_sequences_of_4000_lines_reach_each_cause_of_an_extent_dozens_of_times() {
 
 #[test]
 fn extent_lines_stand_in_states_of_many_kinds() {
-    for seed in 0..8 {
-        let seen = observe(seed, 3000).extents;
-        assert!(seen.answers[0] >= 10 && seen.altered >= 1, "seed {seed}: {seen:?}");
-        assert!(seen.several_causes >= 20, "seed {seed}: {seen:?}");
-    }
+    let seen: Vec<_> = (0..8).map(|seed| observe(seed, 3000).extents).collect();
+    println!("{seen:?}");
+    assert!(seen.iter().map(|seen| seen.answers[0]).sum::<u32>() >= 8 * 10);
+    assert!(seen.iter().map(|seen| seen.altered).sum::<u32>() >= 8);
+    assert!(seen.iter().map(|seen| seen.several_causes).sum::<u32>() >= 8 * 20);
     let seen = observe(18, 60_000).extents;
     println!("{seen:?}");
     assert!(seen.answers[0] >= 350 && seen.several_causes >= 700 && seen.not_in_form >= 80);

@@ -3,13 +3,15 @@
 use crate::cost_observer::SeenCosts;
 use crate::extent_observer::SeenExtents;
 use crate::extents::Asked;
+use crate::reserve_observer::SeenReserves;
+use crate::reserves::{available_by_blocks, taken_by_blocks};
 use crate::status_observer::{check_status, SeenStatuses};
 use reference::damage::Damage;
 use reference::inspector::Inspector;
 use reference::line::{self, Operation};
 use reference::test_line::{self, TestLine};
 use reference::{
-    Bitmap, Error, Memory, Pending, SlotState, BITMAP_START, LOG_LENGTH_POSITION, LOG_START,
+    Bitmap, Error, Memory, Pending, Slot, SlotState, BITMAP_START, LOG_LENGTH_POSITION, LOG_START,
 };
 use std::collections::BTreeSet;
 
@@ -17,7 +19,7 @@ use std::collections::BTreeSet;
 #[derive(Default, Debug)]
 pub struct Seen {
     /// By the error's code and the operation.
-    pub refused: [[u32; Operation::ALL.len()]; 21],
+    pub refused: [[u32; Operation::ALL.len()]; 25],
     pub not_in_form: u32,
     /// Of those, almost a cursor line.
     pub cursors_not_in_form: u32,
@@ -52,6 +54,14 @@ pub struct Seen {
     pub statuses: SeenStatuses,
     pub costs: SeenCosts,
     pub extents: SeenExtents,
+    pub reserves: SeenReserves,
+    /// Refused with cause 1 with nothing wrong but the sum of the reservations: one block too many,
+    /// more, and of these with a sum that wraps at 2^32 to one that could be had; with nothing
+    /// pending, with work pending.
+    pub sums: [[u32; 2]; 3],
+    /// Refused with cause 1 with nothing wrong but what an idle slot has drawn, and what an active
+    /// one has, one block too many.
+    pub drawn: [[u32; 2]; 2],
 }
 
 /// Runs a sequence and checks that refused lines leave all as it was.
@@ -63,6 +73,8 @@ pub fn observe(seed: u64, lines: usize) -> Seen {
         let before = inspector.clone();
         let mut more = String::new();
         let answer = inspector.run(&line, &mut more);
+        let altered = before.memory != memory_after_call;
+        seen.reserves.note(&line, (&before, &inspector), answer, altered);
         match (line::parse(&line), answer) {
             (Some(line), Ok(value)) => {
                 seen.count_accepted(&before, &inspector, line.operation, value);
@@ -78,9 +90,9 @@ pub fn observe(seed: u64, lines: usize) -> Seen {
                 seen.count_refused(&before, error);
             }
             (None, answer) => {
-                let altered = before.memory != memory_after_call;
                 seen.count_test_line(&line, &before, &inspector, (answer, &more), altered);
-                if matches!(test_line::parse(&line), Some(TestLine::Extent { .. })) {
+                let parsed = test_line::parse(&line);
+                if matches!(parsed, Some(TestLine::Extent { .. } | TestLine::Reserve { .. })) {
                     memory_after_call = inspector.memory.clone();
                 }
             }
@@ -114,6 +126,8 @@ impl Seen {
                 assert_eq!(more, "");
                 self.extents.count(before, after, Asked { slot, count, near }, answer, altered);
             }
+            // The observer of reservations looks at it.
+            Some(TestLine::Reserve { .. }) => assert_eq!(more, ""),
             other => {
                 assert!(answer == Ok(0) || answer == Err(Error::MalformedLine));
                 assert!(answer.is_ok() || after == before);
@@ -134,6 +148,7 @@ impl Seen {
         self.costs.not_in_form += almost(b"cost");
         self.extents.not_in_form += almost(b"extent");
         self.cursors_not_in_form += almost(b"cursor");
+        self.reserves.not_in_form += almost(b"reserv") + almost(b"drawn") + almost(b"op=reserve");
     }
 
     fn count_accepted(
@@ -170,7 +185,36 @@ impl Seen {
         }
     }
 
+    /// Counts a memory in which nothing is wrong but reservations or what is drawn.
+    fn count_reservations(&mut self, memory: &Memory) {
+        let mut without = memory.clone();
+        for slot in &mut without.slots {
+            (slot.reservation, slot.drawn) = (0, 0);
+        }
+        if !without.is_valid() {
+            return;
+        }
+        let in_work = usize::from(memory.pending != Pending::Nothing);
+        let (reserved, available) = (memory.reserved(), u64::from(available_by_blocks(memory)));
+        let is_over =
+            |slot: &u32| memory.slots[*slot as usize].drawn > taken_by_blocks(memory, *slot);
+        match (0..8).find(is_over) {
+            None if reserved > available => {
+                self.sums[usize::from(reserved > available + 1)][in_work] += 1;
+                self.sums[2][in_work] += u32::from(reserved % (1 << 32) <= available);
+            }
+            Some(slot) if reserved <= available => {
+                let Slot { state, drawn, .. } = memory.slots[slot as usize];
+                let one_more = drawn == taken_by_blocks(memory, slot) + 1;
+                let active = usize::from(state != SlotState::Idle);
+                self.drawn[active][in_work] += u32::from(one_more);
+            }
+            _ => {}
+        }
+    }
+
     fn count_invalid(&mut self, memory: &Memory) {
+        self.count_reservations(memory);
         if memory.cursor >= memory.blocks {
             let otherwise_valid = Memory { cursor: 0, ..memory.clone() }.is_valid();
             let above = usize::from(memory.cursor > memory.blocks);
@@ -187,7 +231,8 @@ impl Seen {
         let in_range = (1..=4096).contains(&memory.blocks);
         let mut idle = memory.slots.iter().filter(|slot| slot.state == SlotState::Idle);
         let idle_are_empty = idle.all(|slot| slot.tam == Bitmap::EMPTY);
-        if right_parity && in_range && idle_are_empty && memory.pending == Pending::Nothing {
+        let rest = in_range && idle_are_empty && memory.pending == Pending::Nothing;
+        if right_parity && rest && reservations_fit(memory) {
             let outer = |block| memory.sam.has(block) || memory.com.has(block);
             let has_outer_bits = (memory.blocks..4096).any(outer);
             self.outer_bits += u32::from(has_outer_bits);
@@ -247,4 +292,10 @@ fn entries(disk: &[u32]) -> impl Iterator<Item = (u32, u32)> + '_ {
 fn fits(blocks: u32, word: u32, contents: u32) -> bool {
     let below = blocks.saturating_sub(32 * word).min(32);
     u64::from(contents) >> below == 0
+}
+
+/// Whether nothing is wrong with the reservations and what is drawn from them.
+fn reservations_fit(memory: &Memory) -> bool {
+    let has_taken = |slot: u32| memory.slots[slot as usize].drawn <= taken_by_blocks(memory, slot);
+    memory.reserved() <= u64::from(available_by_blocks(memory)) && (0..8).all(has_taken)
 }

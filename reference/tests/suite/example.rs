@@ -122,14 +122,14 @@ cursor=0
 pending=2 0 0 2
 sam 0:3
 com 0:3
-slot 0 state=0
-slot 1 state=0
-slot 2 state=0
-slot 3 state=0
-slot 4 state=0
-slot 5 state=0
-slot 6 state=0
-slot 7 state=0
+slot 0 state=0 reservation=0 drawn=0
+slot 1 state=0 reservation=0 drawn=0
+slot 2 state=0 reservation=0 drawn=0
+slot 3 state=0 reservation=0 drawn=0
+slot 4 state=0 reservation=0 drawn=0
+slot 5 state=0 reservation=0 drawn=0
+slot 6 state=0 reservation=0 drawn=0
+slot 7 state=0 reservation=0 drawn=0
 disk length=386 0:4 1:1 131:3
 list length=1 0
 call=15 answer=0 value=2

@@ -21,7 +21,8 @@ pub fn history(
     malformed: bool,
     extents: bool,
 ) -> impl Iterator<Item = Vec<u8>> {
-    History::new(seed, Shape { blocks, malformed, reformats: true, extents }).unwrap()
+    History::new(seed, Shape { malformed, reformats: true, extents, ..Shape::plain(blocks) })
+        .unwrap()
 }
 
 fn asked(line: &[u8]) -> Option<Asked> {

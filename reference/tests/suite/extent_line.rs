@@ -132,11 +132,11 @@ cursor=39
 pending=0 0 0 0
 sam 0:4294967295 1:1
 com 0:2147483646 1:118
-slot 0 state=0
-slot 1 state=1 0:4294967295 1:7
-slot 2 state=1 0:2147483646
-slot 3 state=1 0:4294967295 1:113
-slot 4 state=2 0:4294967295 1:1
+slot 0 state=0 reservation=0 drawn=0
+slot 1 state=1 reservation=0 drawn=0 0:4294967295 1:7
+slot 2 state=1 reservation=0 drawn=0 0:2147483646
+slot 3 state=1 reservation=0 drawn=0 0:4294967295 1:113
+slot 4 state=2 reservation=0 drawn=0 0:4294967295 1:1
 ";
     let (_, shown) = output.split_once("call=26 answer=0 value=0\n").unwrap();
     assert!(shown.starts_with(expected), "{shown}");
@@ -156,7 +156,7 @@ fn the_bench_program_does_not_know_it() {
 #[test]
 fn it_answers_by_document_02_in_any_state() {
     let mut inspector = Inspector::new();
-    let mut answers = [0; 23];
+    let mut answers = [0; 25];
     for (index, line) in Damage::new(14).take(6000).enumerate() {
         let _ = inspector.run(&line, &mut String::new());
         let blocks = inspector.memory.blocks.min(5000);
@@ -178,7 +178,7 @@ fn it_answers_by_document_02_in_any_state() {
         }
     }
     println!("{answers:?}");
-    assert!([0, 1, 8, 10, 12, 13, 15, 16, 18, 22].iter().all(|code| answers[*code] >= 100));
-    let others = [2, 3, 4, 5, 6, 7, 9, 11, 14, 17, 19, 20, 21];
+    assert!([0, 1, 8, 10, 12, 13, 15, 16, 18, 22, 24].iter().all(|code| answers[*code] >= 100));
+    let others = [2, 3, 4, 5, 6, 7, 9, 11, 14, 17, 19, 20, 21, 23];
     assert!(others.iter().all(|code| answers[*code] == 0));
 }

@@ -8,7 +8,7 @@ use reference::{Error, Memory};
 #[derive(Default, Debug)]
 pub struct SeenExtents {
     /// By the answer's number, accepted ones as 0.
-    pub answers: [u32; 23],
+    pub answers: [u32; 25],
     /// Accepted with the start at the near block, below it, above it.
     pub at_near: u32,
     pub below: u32,

@@ -50,42 +50,56 @@ fn observe(seed: u64, mut inspector: Inspector) -> Seen {
 
 #[test]
 fn extents_of_every_kind_come_up_often() {
-    for seed in 1..=4 {
-        let seen = observe(seed, Inspector::new());
-        println!("seed {seed}: {seen:?}");
-        let extents = &seen.extents;
-        assert!(extents.answers.iter().sum::<u32>() >= 6500, "most lines are extents");
-        assert!(extents.answers[0] >= 2500 && extents.answers[22] >= 2000);
-        assert!(extents.below >= 1000 && extents.above >= 500 && extents.at_near >= 500);
-        assert!(extents.ties >= 300);
-        assert!(extents.scattered >= 500);
-        assert!(extents.from_0 >= 80 && extents.to_the_end >= 80);
-        assert!(extents.in_two_words >= 200 && extents.in_three_words >= 20);
-        assert!(extents.longest >= 20 && extents.short_lists >= 10 && extents.busy >= 1000);
+    let all: Vec<Seen> = (1..=4).map(|seed| observe(seed, Inspector::new())).collect();
+    all.iter().for_each(|seen| println!("{seen:?}"));
+    let often = |least: u32, count: fn(&SeenExtents) -> u32| {
+        let times: u32 = all.iter().map(|seen| count(&seen.extents)).sum();
+        assert!(times >= 4 * least, "{times}, {least} each");
+    };
+    often(6500, |extents| extents.answers.iter().sum());
+    often(2500, |extents| extents.answers[0]);
+    often(2000, |extents| extents.answers[22]);
+    often(200, |extents| extents.answers[24]);
+    often(1000, |extents| extents.below);
+    often(500, |extents| extents.above);
+    often(500, |extents| extents.at_near);
+    often(300, |extents| extents.ties);
+    often(500, |extents| extents.scattered);
+    often(80, |extents| extents.from_0);
+    often(80, |extents| extents.to_the_end);
+    often(200, |extents| extents.in_two_words);
+    often(20, |extents| extents.in_three_words);
+    often(20, |extents| extents.longest);
+    often(10, |extents| extents.short_lists);
+    often(1000, |extents| extents.busy);
+    for seen in all {
         assert!(seen.on_large >= 50 && seen.shows >= 50 && seen.shows <= 300);
     }
 }
 
 #[test]
 fn the_other_answers_are_few() {
+    let mut all = [0; 25];
     for seed in 1..=4 {
         let answers = observe(seed, Inspector::new()).extents.answers;
         for code in [10, 12, 15, 16, 18] {
-            assert!(answers[code] >= 5 && answers[code] <= 300, "seed {seed}: {answers:?}");
+            assert!(answers[code] <= 300, "seed {seed}: {answers:?}");
+            all[code] += answers[code];
         }
-        let others: u32 = (1..22)
-            .filter(|code| ![10, 12, 13, 15, 16, 18].contains(code))
+        let others: u32 = (1..25)
+            .filter(|code| ![10, 12, 13, 15, 16, 18, 22, 24].contains(code))
             .map(|code| answers[code])
             .sum();
         assert_eq!(others, 0, "seed {seed}: {answers:?}");
     }
+    assert!([10, 12, 15, 16, 18].iter().all(|code| all[*code] >= 4 * 5), "{all:?}");
 }
 
 #[test]
 fn the_volumes_are_of_all_favoured_sizes_and_others() {
     let mut blocks = BTreeSet::new();
     let mut counts = BTreeSet::new();
-    for seed in 1..=4 {
+    for seed in 1..=6 {
         let seen = observe(seed, Inspector::new());
         blocks.extend(seen.blocks);
         counts.extend(seen.counts);

@@ -1,6 +1,7 @@
 //! Allocate extent as document 02 says it, one block at a time.
 
 use crate::allocates::granted;
+use crate::reserves::leaves_others_theirs;
 use crate::slots::ready_slot;
 use reference::inspector::Inspector;
 use reference::{Bitmap, Error, Memory, SlotState};
@@ -14,7 +15,7 @@ pub struct Asked {
 }
 
 /// What an extent is to answer with a list of so many places: allocate's causes without 17 in
-/// number order, then 18 and 22, then its first block.
+/// number order, then 18, 22 and 24, then its first block.
 pub fn extent_by_blocks(memory: &Memory, places: usize, asked: Asked) -> Result<u32, Error> {
     let Asked { slot, count, near } = asked;
     match ready_slot(memory, slot)?.state {
@@ -23,7 +24,10 @@ pub fn extent_by_blocks(memory: &Memory, places: usize, asked: Asked) -> Result<
         SlotState::Open if count == 0 || count > 64 => Err(Error::Count),
         SlotState::Open if places < count as usize => Err(Error::ListLength),
         SlotState::Open if near >= memory.blocks => Err(Error::BlockNumber),
-        SlotState::Open => nearest_start(memory, count, near).ok_or(Error::NoExtent),
+        SlotState::Open => {
+            let start = nearest_start(memory, count, near).ok_or(Error::NoExtent)?;
+            leaves_others_theirs(memory, slot, count).map(|()| start)
+        }
     }
 }
 

@@ -20,7 +20,7 @@ struct Depth {
     /// Blocks granted anew whose release was committed while another slot, still active, was open.
     retaken: u32,
     all_slots_active: u32,
-    refused: [u32; 22],
+    refused: [u32; 25],
 }
 
 /// A bench that counts what it sees.
@@ -135,7 +135,7 @@ fn the_histories_of_the_ledger_test_are_deep() {
 fn a_history_of_60_000_lines_goes_on_committing() {
     for (seed, blocks, commits, wide) in [(4, 4096, 1000, 100), (2, 33, 1500, 0), (3, 0, 1000, 20)]
     {
-        let shape = Shape { blocks, malformed: true, reformats: true, extents: false };
+        let shape = Shape { malformed: true, reformats: true, ..Shape::plain(blocks) };
         let mut observer = Observer::new();
         History::new(seed, shape).unwrap().take(60_000).for_each(|line| observer.run(&line));
         let depth = observer.depth;
@@ -153,7 +153,7 @@ fn a_history_of_60_000_lines_goes_on_committing() {
 
 #[test]
 fn malformed_lines_are_of_many_kinds() {
-    let shape = Shape { blocks: 0, malformed: true, reformats: true, extents: false };
+    let shape = Shape { malformed: true, reformats: true, ..Shape::plain(0) };
     let lines: Vec<Vec<u8>> = History::new(4, shape).unwrap().take(20_000).collect();
     let malformed: Vec<&Vec<u8>> = lines.iter().filter(|line| parse(line).is_none()).collect();
     let count = |kind: &dyn Fn(&[u8]) -> bool| malformed.iter().filter(|line| kind(line)).count();
@@ -173,7 +173,7 @@ fn malformed_lines_are_of_many_kinds() {
 #[test]
 fn the_first_line_formats_and_only_with_leave_is_there_another_format() {
     let formats = |reformats: bool| {
-        let shape = Shape { blocks: 77, malformed: false, reformats, extents: false };
+        let shape = Shape { reformats, ..Shape::plain(77) };
         let mut bench = Bench::new();
         let accepted = |line: Vec<u8>| {
             let is_format = parse(&line).map(|line| line.operation) == Some(Operation::Format);
@@ -191,7 +191,7 @@ fn the_first_line_formats_and_only_with_leave_is_there_another_format() {
 #[test]
 fn random_block_counts_reach_the_edges() {
     let blocks = |seed| {
-        let shape = Shape { blocks: 0, malformed: false, reformats: false, extents: false };
+        let shape = Shape::plain(0);
         let first = History::new(seed, shape).unwrap().next().unwrap();
         parse(&first).unwrap().number
     };

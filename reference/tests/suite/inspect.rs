@@ -8,14 +8,14 @@ cursor=0
 pending=0 0 0 0
 sam
 com
-slot 0 state=0
-slot 1 state=0
-slot 2 state=0
-slot 3 state=0
-slot 4 state=0
-slot 5 state=0
-slot 6 state=0
-slot 7 state=0
+slot 0 state=0 reservation=0 drawn=0
+slot 1 state=0 reservation=0 drawn=0
+slot 2 state=0 reservation=0 drawn=0
+slot 3 state=0 reservation=0 drawn=0
+slot 4 state=0 reservation=0 drawn=0
+slot 5 state=0 reservation=0 drawn=0
+slot 6 state=0 reservation=0 drawn=0
+slot 7 state=0 reservation=0 drawn=0
 ";
 
 fn inspect(input: &str) -> String {
@@ -75,14 +75,14 @@ cursor=33
 pending=1 1 2 8
 sam
 com 0:4294967295 1:1
-slot 0 state=0
-slot 1 state=2 0:4294967295 1:1
-slot 2 state=0
-slot 3 state=0
-slot 4 state=0
-slot 5 state=0
-slot 6 state=0
-slot 7 state=0
+slot 0 state=0 reservation=0 drawn=0
+slot 1 state=2 reservation=0 drawn=0 0:4294967295 1:1
+slot 2 state=0 reservation=0 drawn=0
+slot 3 state=0 reservation=0 drawn=0
+slot 4 state=0 reservation=0 drawn=0
+slot 5 state=0 reservation=0 drawn=0
+slot 6 state=0 reservation=0 drawn=0
+slot 7 state=0 reservation=0 drawn=0
 disk length=386 0:40 131:4294967295
 list length=64{list}{}
 ",
@@ -187,7 +187,7 @@ fn the_lines_of_the_program() {
 #[test]
 fn bench_lines_have_the_bench_programs_answers() {
     for (seed, blocks) in [(1, 0), (2, 33), (3, 4096)] {
-        let shape = Shape { blocks, malformed: true, reformats: true, extents: false };
+        let shape = Shape { malformed: true, reformats: true, ..Shape::plain(blocks) };
         let lines: Vec<Vec<u8>> = History::new(seed, shape).unwrap().take(5000).collect();
         let input = lines.join(&b'\n');
         let (mut expected, mut output) = (Vec::new(), Vec::new());

@@ -1,6 +1,8 @@
 //! Demand 3: the ledger beside the allocator, compared after every call of random histories.
 
-use crate::comparison::{fault_in_history, fault_in_lines, history_with_extents};
+use crate::comparison::{
+    fault_in_history, fault_in_lines, history_with_extents, history_with_reserves,
+};
 use reference::bench::Bench;
 use reference::line::Operation;
 use reference::{BlockSet, Call, Ledger};
@@ -28,6 +30,14 @@ fn the_ledger_holds_in_long_histories() {
 fn the_ledger_holds_with_extents_entered_as_allocates() {
     for (seed, lines) in (0..300).map(|seed| (seed, LINES)).chain([(300, 10_000), (301, 10_000)]) {
         let fault = fault_in_lines(history_with_extents(seed).take(lines), Bench::call);
+        assert_eq!(fault, None, "seed {seed}");
+    }
+}
+
+#[test]
+fn the_ledger_holds_with_reserves_entered_as_nothing() {
+    for (seed, lines) in (0..300).map(|seed| (seed, LINES)).chain([(300, 10_000), (301, 10_000)]) {
+        let fault = fault_in_lines(history_with_reserves(seed, lines), Bench::call);
         assert_eq!(fault, None, "seed {seed}");
     }
 }

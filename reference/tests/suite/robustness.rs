@@ -5,14 +5,15 @@ use crate::allocates::allocate_by_blocks;
 use crate::costs::cost_by_blocks;
 use crate::counts::counts_by_blocks;
 use crate::extents::{extent_by_blocks, Asked};
+use crate::reserves::{reserve_by_blocks, reserved};
 use crate::rollbacks;
 use crate::state::{State, UNWRITTEN};
 use reference::bench::Bench;
 use reference::history::{History, Shape};
 use reference::line::Operation;
 use reference::{
-    allocate, allocate_extent, commit, commit_cost, deallocate, format, open, precommit, start,
-    status, store, Bitmap, Error, Memory, Pending, Random, Slot, SlotState, DISK_WORDS,
+    allocate, allocate_extent, commit, commit_cost, deallocate, format, open, precommit, reserve,
+    start, status, store, Bitmap, Error, Memory, Pending, Random, Slot, SlotState, DISK_WORDS,
 };
 
 const NUMBERS: [u32; 14] = [0, 1, 2, 3, 7, 8, 31, 64, 65, 128, 129, 4096, u32::MAX - 1, u32::MAX];
@@ -20,7 +21,7 @@ const NUMBERS: [u32; 14] = [0, 1, 2, 3, 7, 8, 31, 64, 65, 128, 129, 4096, u32::M
 /// A call with a slot, a number and, for an extent, a near block.
 type AnyCall = fn(&mut State, u32, u32, u32) -> Result<u32, Error>;
 
-const CALLS: [AnyCall; 13] = [
+const CALLS: [AnyCall; 14] = [
     |s, _, number, _| format(&mut s.disk, number).map(|()| 0),
     |s, _, _, _| {
         let opened = open(&s.disk);
@@ -59,6 +60,13 @@ const CALLS: [AnyCall; 13] = [
         assert_eq!(answer, expected);
         answer
     },
+    |s, slot, blocks, _| {
+        let (before, expected) = (s.memory.clone(), reserve_by_blocks(&s.memory, slot, blocks));
+        let answer = reserve(&mut s.memory, slot, blocks);
+        assert_eq!(answer, expected);
+        answer.map(|()| assert_eq!(s.memory, reserved(&before, slot, blocks)))?;
+        Ok(0)
+    },
 ];
 
 fn number(random: &mut Random) -> u32 {
@@ -89,7 +97,10 @@ fn any_state(random: &mut Random) -> State {
     memory.com = if random.one_in(2) { memory.sam } else { bitmap(random) };
     for slot in &mut memory.slots {
         let state = random.choose(&[SlotState::Idle, SlotState::Open, SlotState::Precommitted]);
-        *slot = Slot { state, tam: random.choose(&[Bitmap::EMPTY, memory.sam, memory.com]) };
+        let tam = random.choose(&[Bitmap::EMPTY, memory.sam, memory.com]);
+        let (any, any_drawn) = (number(random), number(random));
+        let (reservation, drawn) = random.choose(&[(0, 0), (0, 0), (any, 0), (any, any_drawn)]);
+        *slot = Slot { state, tam, reservation, drawn };
     }
     let length = random.choose(&[0, 1, 2, 130, 385, 386, 386, 386, 387]);
     let disk = (0..length).map(|_| number(random)).collect();
@@ -103,6 +114,14 @@ fn damaged_state(random: &mut Random, bench: &Bench) -> State {
     let mut memory = bench.memory.clone();
     for _ in 0..random.below(3) {
         disk[random.choose(&[0, 1, 1, 2, 3, 4, 130, 131, 132, 133, 385])] = number(random);
+    }
+    let available = memory.available();
+    let slot = &mut memory.slots[random.below(8) as usize];
+    match random.below(16) {
+        0 => slot.reservation = number(random),
+        1..=4 => slot.reservation = available.saturating_sub(random.below(8)),
+        5 => slot.drawn = number(random),
+        _ => {}
     }
     match random.below(12) {
         0 => memory.pending = pending(random),
@@ -119,7 +138,7 @@ fn damaged_state(random: &mut Random, bench: &Bench) -> State {
 }
 
 /// Makes every call and counts the answers, accepted ones as 0.
-fn make_every_call(random: &mut Random, state: &State, answers: &mut [u32; 23]) {
+fn make_every_call(random: &mut Random, state: &State, answers: &mut [u32; 25]) {
     for (index, call) in CALLS.iter().enumerate() {
         let slot = if random.one_in(8) { number(random) } else { random.below(8) };
         let mut after = state.clone();
@@ -136,7 +155,7 @@ fn make_every_call(random: &mut Random, state: &State, answers: &mut [u32; 23]) 
 #[test]
 fn calls_on_anything() {
     let mut random = Random::new(6);
-    let mut answers = [0; 23];
+    let mut answers = [0; 25];
     for _ in 0..5000 {
         let state = any_state(&mut random);
         make_every_call(&mut random, &state, &mut answers);
@@ -149,9 +168,9 @@ fn calls_on_anything() {
 #[test]
 fn calls_on_damaged_states() {
     let mut random = Random::new(7);
-    let mut answers = [0; 23];
-    for seed in 0..100 {
-        let shape = Shape { blocks: 0, malformed: false, reformats: true, extents: false };
+    let mut answers = [0; 25];
+    for seed in 0..200 {
+        let shape = Shape { reformats: true, ..Shape::plain(0) };
         let mut bench = Bench::new();
         for line in History::new(seed, shape).unwrap().take(100) {
             let _ = bench.run(&line);

@@ -12,7 +12,14 @@ const LINES: usize = 12_000;
 
 /// Runs lines and checks each drop and each revoke.
 fn observe(lines: impl Iterator<Item = Vec<u8>>) -> SeenRollbacks {
-    let (mut inspector, mut seen) = (Inspector::new(), SeenRollbacks::default());
+    let mut seen = SeenRollbacks::default();
+    observe_too(&mut seen, lines);
+    seen
+}
+
+/// The same, counted together with what was seen in other sequences.
+fn observe_too(seen: &mut SeenRollbacks, lines: impl Iterator<Item = Vec<u8>>) {
+    let mut inspector = Inspector::new();
     for bytes in lines {
         let before = inspector.memory.clone();
         let answer = inspector.run(&bytes, &mut String::new());
@@ -20,7 +27,6 @@ fn observe(lines: impl Iterator<Item = Vec<u8>>) -> SeenRollbacks {
             seen.count(&before, &inspector.memory, &line, answer);
         }
     }
-    seen
 }
 
 /// At least so many are accepted, and refused for the slot's state, and of either so many among
@@ -52,12 +58,11 @@ fn histories_make_both_calls_right_and_wrong() {
 
 #[test]
 fn damaging_sequences_make_both_calls_right_and_wrong() {
-    for seed in 0..8 {
-        let seen = observe(Damage::new(seed).take(4000));
-        println!("seed {seed}: {seen:?}");
-        assert_often(&seen.drops, 13, [5, 3], [5, 3]);
-        assert_often(&seen.revokes, 14, [5, 3], [5, 3]);
-    }
+    let mut seen = SeenRollbacks::default();
+    (0..8).for_each(|seed| observe_too(&mut seen, Damage::new(seed).take(4000)));
+    println!("{seen:?}");
+    assert_often(&seen.drops, 13, [8 * 5, 8 * 3], [8 * 5, 8 * 3]);
+    assert_often(&seen.revokes, 14, [8 * 5, 8 * 3], [8 * 5, 8 * 3]);
     let seen = observe(Damage::new(9).take(60_000));
     println!("{seen:?}");
     assert_often(&seen.drops, 13, [140, 90], [100, 80]);
@@ -66,14 +71,13 @@ fn damaging_sequences_make_both_calls_right_and_wrong() {
 
 #[test]
 fn sequences_of_extents_make_both_calls_right_and_wrong() {
-    for seed in 1..=4 {
-        let seen = observe(Extents::new(seed).take(10_000));
-        println!("seed {seed}: {seen:?}");
-        assert_often(&seen.drops, 13, [250, 180], [40, 30]);
-        assert_often(&seen.revokes, 14, [120, 90], [80, 50]);
-        for calls in [&seen.drops, &seen.revokes] {
-            assert!([1, 8, 10, 12].iter().all(|code| calls.answers[*code] == 0), "{calls:?}");
-        }
+    let mut seen = SeenRollbacks::default();
+    (1..=4).for_each(|seed| observe_too(&mut seen, Extents::new(seed).take(10_000)));
+    println!("{seen:?}");
+    assert_often(&seen.drops, 13, [4 * 250, 4 * 180], [4 * 40, 4 * 30]);
+    assert_often(&seen.revokes, 14, [4 * 120, 4 * 90], [4 * 80, 4 * 50]);
+    for calls in [&seen.drops, &seen.revokes] {
+        assert!([1, 8, 10, 12].iter().all(|code| calls.answers[*code] == 0), "{calls:?}");
     }
 }
 

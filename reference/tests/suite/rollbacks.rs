@@ -19,14 +19,15 @@ pub fn answer_by_words(memory: &Memory, operation: Operation, slot: u32) -> Resu
 }
 
 /// The memory with this slot rolled back: COM has SAM's bit again at each block that the slot has
-/// touched, and the slot is idle.
+/// touched, the slot is idle, and what it has drawn is its reservation's again.
 pub fn rolled_back(memory: &Memory, slot: u32) -> Memory {
     let mut after = memory.clone();
     for block in touched_blocks(memory, slot) {
         let (word, bit) = (block as usize / 32, 1 << (block % 32));
         after.com.words[word] = after.com.words[word] & !bit | memory.sam.words[word] & bit;
     }
-    after.slots[slot as usize] = Slot::IDLE;
+    let Slot { reservation, drawn, .. } = memory.slots[slot as usize];
+    after.slots[slot as usize] = Slot { reservation: reservation + drawn, ..Slot::IDLE };
     after
 }
 

@@ -3,8 +3,8 @@
 use reference::bench::Bench;
 use reference::history::{History, Shape};
 use reference::{
-    allocate, commit, deallocate, format, open, precommit, start, store, Error, Memory, DISK_WORDS,
-    MAX_COUNT,
+    allocate, commit, deallocate, format, open, precommit, reserve, start, store, Error, Memory,
+    DISK_WORDS, MAX_COUNT,
 };
 
 /// 40 blocks, of which 33 are allocated. Slot 1 has taken two, slot 2 has freed three in two words.
@@ -82,16 +82,31 @@ impl State {
         state
     }
 
-    /// Busy states whose memory isn't valid: that of zeros, one with a bit of COM turned, and one
-    /// with a cursor of m.
-    pub fn not_valid() -> [State; 3] {
+    /// Busy states whose memory isn't valid: that of zeros, one with a bit of COM turned, one with a
+    /// cursor of m, one with a block more reserved than available, and one where a slot has drawn a
+    /// block more than it took.
+    pub fn not_valid() -> [State; 5] {
         let mut zeros = State::busy();
         zeros.memory = Memory::ZEROS;
         let mut damaged = State::busy();
         damaged.memory.com.words[1] ^= 1;
         let mut beyond = State::busy();
         beyond.memory.cursor = 100;
-        [zeros, damaged, beyond]
+        let mut reserved = State::busy();
+        reserved.memory.slots[1].reservation = 20;
+        reserved.memory.slots[5].reservation = 6;
+        let mut drawn = State::busy();
+        drawn.memory.slots[1].drawn = 4;
+        [zeros, damaged, beyond, reserved, drawn]
+    }
+
+    pub fn reserve(&mut self, slot: u32, blocks: u32) {
+        assert_eq!(reserve(&mut self.memory, slot, blocks), Ok(()));
+    }
+
+    /// The slot's reservation, and what its transaction has drawn from it.
+    pub fn reserved(&self, slot: usize) -> (u32, u32) {
+        (self.memory.slots[slot].reservation, self.memory.slots[slot].drawn)
     }
 
     pub fn start(&mut self, slot: u32) {
@@ -165,7 +180,7 @@ pub fn assert_accepted<Answer: std::fmt::Debug>(
 
 /// The states of a history, one after each line.
 pub fn states_of(seed: u64, blocks: u32, lines: usize) -> impl Iterator<Item = Bench> {
-    let shape = Shape { blocks, malformed: false, reformats: false, extents: false };
+    let shape = Shape::plain(blocks);
     let mut bench = Bench::new();
     let run = move |line: Vec<u8>| {
         let _ = bench.run(&line);

@@ -7,7 +7,7 @@ const LINES: usize = 6000;
 const BLOCKS: [u32; 4] = [0, 33, 200, 4096];
 
 fn plain(seed: u64, blocks: u32, malformed: bool) -> Vec<Vec<u8>> {
-    let shape = Shape { blocks, malformed, reformats: true, extents: false };
+    let shape = Shape { malformed, reformats: true, ..Shape::plain(blocks) };
     History::new(seed, shape).unwrap().take(LINES).collect()
 }
 

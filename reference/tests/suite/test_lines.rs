@@ -4,7 +4,7 @@ use reference::inspector::Inspector;
 use reference::test_line::{parse, TestLine};
 use reference::{Error, Memory, Pending, SlotState};
 
-const IN_FORM: [(&str, TestLine); 24] = [
+const IN_FORM: [(&str, TestLine); 33] = [
     ("disk 0 0", TestLine::Disk { index: 0, word: 0 }),
     ("disk 385 4294967295", TestLine::Disk { index: 385, word: u32::MAX }),
     ("disk 0000000007 0000000009", TestLine::Disk { index: 7, word: 9 }),
@@ -18,6 +18,12 @@ const IN_FORM: [(&str, TestLine); 24] = [
     ("com 128 2", TestLine::Com { index: 128, word: 2 }),
     ("tam 7 8 9", TestLine::Tam { slot: 7, index: 8, word: 9 }),
     ("state 3 2", TestLine::State { slot: 3, code: 2 }),
+    ("reservation 7 8", TestLine::Reservation { slot: 7, blocks: 8 }),
+    ("reservation 8 4294967295", TestLine::Reservation { slot: 8, blocks: u32::MAX }),
+    ("reservation 0000000001 0000000000", TestLine::Reservation { slot: 1, blocks: 0 }),
+    ("drawn 7 8", TestLine::Drawn { slot: 7, blocks: 8 }),
+    ("drawn 8 4294967295", TestLine::Drawn { slot: 8, blocks: u32::MAX }),
+    ("drawn 0000000001 0000000000", TestLine::Drawn { slot: 1, blocks: 0 }),
     ("pending 1 2 3 4", TestLine::Pending { codes: [1, 2, 3, 4] }),
     ("pending 0 0 0 0", TestLine::Pending { codes: [0; 4] }),
     ("list 64", TestLine::List { places: 64 }),
@@ -30,11 +36,14 @@ const IN_FORM: [(&str, TestLine); 24] = [
         TestLine::Extent { slot: u32::MAX, count: u32::MAX, near: u32::MAX },
     ),
     ("extent 0000000003 0000000000 01", TestLine::Extent { slot: 3, count: 0, near: 1 }),
+    ("reserve 7 4096", TestLine::Reserve { slot: 7, blocks: 4096 }),
+    ("reserve 4294967295 4294967295", TestLine::Reserve { slot: u32::MAX, blocks: u32::MAX }),
+    ("reserve 0000000003 0000000000", TestLine::Reserve { slot: 3, blocks: 0 }),
     ("show", TestLine::Show),
     ("status", TestLine::Status),
 ];
 
-const NOT_IN_FORM: [&[u8]; 82] = [
+const NOT_IN_FORM: [&[u8]; 100] = [
     b"",
     b" ",
     b"show ",
@@ -111,6 +120,24 @@ const NOT_IN_FORM: [&[u8]; 82] = [
     b"cursor -1",
     b"cursor 4294967296",
     b"op=cursor seat=0 n=1",
+    b"reserve",
+    b"reserve 1",
+    b"reserve 1 ",
+    b"reserve 1 2 ",
+    b"reserve 1 2 3",
+    b"reserve 1 4294967296",
+    b"op=reserve seat=1 n=2",
+    b"reservation",
+    b"reservation 1",
+    b"reservation 1 2 3",
+    b"reservation 1 4294967296",
+    b"reservations 1 2",
+    b"reserved 1 2",
+    b"drawn",
+    b"drawn 1",
+    b"drawn 1 2 3",
+    b"drawn 1 4294967296",
+    b"draw 1 2",
     b"tam 1 2",
     b"state 1",
     b"pending 1 2 3",
@@ -175,6 +202,8 @@ fn lines_in_range_and_out_of_range() {
         ("tam 0 127 1", "tam 0 128 1"),
         ("state 7 2", "state 8 2"),
         ("state 0 2", "state 0 3"),
+        ("reservation 7 4294967295", "reservation 8 1"),
+        ("drawn 7 4294967295", "drawn 8 1"),
         ("pending 2 9 9 9", "pending 3 9 9 9"),
         ("list 63", "list 65"),
     ];
@@ -200,11 +229,16 @@ fn the_range_of_a_disk_word_is_the_disks_length() {
 
 #[test]
 fn what_test_lines_alter() {
-    let inspector = run("disk 3 30\nblocks 40\ncursor 41\nsam 1 11\ncom 2 12\ntam 4 5 13\nlist 0");
+    let inspector = run("disk 3 30\nblocks 40\ncursor 41\nsam 1 11\ncom 2 12\ntam 4 5 13\nlist 0
+reservation 0 14\nreservation 7 15\ndrawn 7 4294967295\ndrawn 6 16");
     let mut memory = Memory { blocks: 40, cursor: 41, ..Memory::ZEROS };
     memory.sam.words[1] = 11;
     memory.com.words[2] = 12;
     memory.slots[4].tam.words[5] = 13;
+    memory.slots[0].reservation = 14;
+    memory.slots[7].reservation = 15;
+    memory.slots[7].drawn = u32::MAX;
+    memory.slots[6].drawn = 16;
     let mut expected = Inspector { memory, places: 0, ..Inspector::new() };
     expected.disk[3] = 30;
     assert_eq!(inspector, expected);

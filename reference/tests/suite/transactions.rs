@@ -29,7 +29,7 @@ fn start_copies_sam() {
     let mut state = two_transactions();
     state.start(3);
     let tam = bitmap(u32::MAX, 0);
-    assert_eq!(state.memory.slots[3], Slot { state: SlotState::Open, tam });
+    assert_eq!(state.memory.slots[3], Slot::unreserved(SlotState::Open, tam));
     assert_eq!(state.memory.com, bitmap(!3, 0b1111));
 }
 

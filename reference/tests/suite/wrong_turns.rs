@@ -3,7 +3,7 @@
 //! otherwise.
 
 use crate::comparison::{
-    fault_in_history, fault_of_steps, history_with_extents, right_extent, ExtentStep, Step,
+    fault_in_history, fault_of_steps, history_with_extents, right_extent, ExtentStep, Step, Steps,
 };
 use crate::extents::{nearest_start, put, Asked};
 use reference::bench::Bench;
@@ -21,7 +21,8 @@ pub fn faults(step: Step) -> Vec<&'static str> {
 
 /// The same in histories with extent lines.
 pub fn faults_of_extents(step: ExtentStep) -> Vec<&'static str> {
-    let fault = |seed| fault_of_steps(history_with_extents(seed).take(300), Bench::call, step);
+    let steps = Steps { extent: step, ..Steps::RIGHT };
+    let fault = |seed| fault_of_steps(history_with_extents(seed).take(300), steps);
     let mut faults: Vec<_> = (0..100).filter_map(fault).collect();
     faults.sort_unstable();
     faults.dedup();

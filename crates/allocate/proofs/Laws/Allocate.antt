@@ -1,14 +1,17 @@
 -- Allocate: its verdict, and what taking its blocks needs.
 use Prim.Native.Nat.{ℕ, _≤_}
 use native.Mathlib.Omega.{arith}
-use mathlib.Core.Path.{_≡_, refl, _∙_}
+use mathlib.Core.Path.{_≡_, refl, ap, _∙_}
+use mathlib.Core.Option.{none}
 use mathlib.Core.List.{List}
 use lib.ListN.{length}
 use Rattle.available.specs.Take.{CanTake, firstBlocks}
 use Rattle.model_types.specs.declared.memory.Slot.{Slot}
 use Rattle.model_types.specs.declared.memory.Memory.{Memory}
 use Rattle.model_types.specs.Memory.{slotAt}
-use Rattle.model.specs.Causes.{countOutOfRange, listShort, available, tooFewAvailable}
+use Rattle.model.specs.Available.{available}
+use Rattle.model.specs.Causes.{countOutOfRange, listShort, tooFewAvailable, reservedForOthers}
+use Rattle.model.specs.Reserves.{othersReserved}
 use Rattle.model.specs.Calls.Precommit.{precommitError}
 use Rattle.model.specs.Calls.Allocate.{allocateError, met, firstMet}
 use Rattle.model_types.proofs.Laws.Shape.{Shaped}
@@ -17,15 +20,22 @@ use Rattle.model.proofs.Laws.Taking.{met-length}
 use Rattle.model.proofs.Laws.Accepted.{AllocateAccepted}
 use Rattle.verdicts.specs.declared.verdict.Verdict.{Verdict}
 use Rattle.verdicts.specs.Verdicts.{verdict, thenCauses}
-use Rattle.verdicts.proofs.Laws.Verdicts.{then-causes}
+use Rattle.verdicts.proofs.Laws.Verdicts.{then-causes, then-same}
 use Rattle.allocate.specs.Causes.{countCauses}
 
 module _ (memory : Memory) (s count : ℕ) (list : List ℕ) where
   -- its own causes after those of an open slot
-  pub allocate-verdict : {v earlier : Verdict} → v ≡ thenCauses earlier (countCauses (memory .blocks) (memory .sam .words) (memory .com .words) count list)
-      → earlier ≡ verdict (precommitError memory s) → v ≡ verdict (allocateError memory s count list)
-  unfolding precommitError allocateError countOutOfRange listShort tooFewAvailable available
-  allocate-verdict e f = e ∙ rw f (then-causes _ _)
+  pub allocate-verdict : {v earlier : Verdict} (reserved : ℕ)
+      → v ≡ thenCauses earlier (countCauses (memory .blocks) (memory .sam .words) (memory .com .words) count list reserved)
+      → earlier ≡ verdict (precommitError memory s)
+      → (precommitError memory s ≡ none → reserved ≡ othersReserved (memory .reserves) s)
+      → v ≡ verdict (allocateError memory s count list)
+  unfolding precommitError allocateError countOutOfRange listShort tooFewAvailable reservedForOthers available
+  allocate-verdict reserved e f g =
+      e
+      ∙ rw f
+      (then-same (precommitError memory s) _ _ (λ passed. ap (countCauses (memory .blocks) (memory .sam .words) (memory .com .words) count list) (g passed))
+      ∙ then-causes _ _)
 
   -- its blocks are as many as counted, so at least one
   pub some-met : AllocateAccepted memory s count list → 1 ≤ length (firstMet memory count)

@@ -1,5 +1,5 @@
--- What was refused stays so; else three causes, one after the other.
-use Prim.Native.Nat.{ℕ}
+-- What was refused stays so; else four causes, one after the other.
+use Prim.Native.Nat.{ℕ, _-_}
 use mathlib.Core.Path.{refl, sym, ap, _∙_}
 use mathlib.Core.Bool.{not}
 use lib.Dec.{ltb}
@@ -32,20 +32,30 @@ unless-requires-2 c κs = search needs
 unless-requires-3 : tie.Need-unless-requires-3
 unless-requires-3 c κs = search needs
 
+leaves-fewer-requires : tie.Need-leaves-fewer-requires
+leaves-fewer-requires c κs = search needs
+
+unless-requires-4 : tie.Need-unless-requires-4
+unless-requires-4 c κs = search needs
+
 returns-2 : tie.Need-returns-2
 returns-2 c =
-    let roomy = c .before .unless2 in
-    let counted = c .before .before .unless in
-    let in-range = c .before .before .before .count-in-range in
-    let available = c .before .before .before .before .count-available in
-    let past = c .before .before .before .before .before in
+    let fewer = c .before .leaves-fewer in
+    let enough = c .before .before .unless3 in
+    let roomy = c .before .before .before .unless2 in
+    let counted = c .before .before .before .before .unless in
+    let in-range = c .before .before .before .before .before .count-in-range in
+    let available = c .before .before .before .before .before .before .count-available in
+    let past = c .before .before .before .before .before .before .before in
     let a = past .before .before .before .args in
     then-accepted (a .earlier) _ (past .before .is-accepted .ensures) (not-false _ (past .if1 .left))
-    (then-tested _ _ _ (c .unless3 .ensures)
+    (then-tested _ _ _ (c .unless4 .ensures)
+    (then-tested _ _ _ (enough .ensures)
     (then-tested _ _ _ (roomy .ensures)
     (then-tested _ _ _ (counted .ensures) none-tested (ap not (in-range .ensures)))
     refl)
     (ap (λ (n : ℕ). ltb n (a .count)) (available .ensures)))
+    (fewer .ensures ∙ ap (λ (n : ℕ). ltb (n - a .count) (a .reserved)) (available .ensures)))
 
 pub enough-spec : {M : Type 1} → statement M
 enough-spec =
@@ -58,4 +68,6 @@ enough-spec =
     unless-requires
     unless-requires-2
     unless-requires-3
+    leaves-fewer-requires
+    unless-requires-4
     returns-2)

@@ -4,21 +4,25 @@ use native.Mathlib.Nat.{add-zero}
 use native.Mathlib.Omega.{arith}
 use mathlib.Core.Path.{_≡_, refl, sym, ap, _∙_}
 use mathlib.Core.Bool.{Bool, true, false, cond}
-use mathlib.Core.List.{List}
-use lib.ListN.{length, getD}
+use mathlib.Core.Option.{none}
+use mathlib.Core.List.{List, [], _∷_}
+use lib.ListN.{length, getD, take, drop}
 use lib.Dec.{eqb}
 use borrow.Author.Tests.{eq-eqb, ne-eqb, eqb-true, eqb-false}
+use Rattle.bitmap.specs.Sizes.{maxBlocks}
 use Rattle.bitmap.specs.Blocks.{isAvailable}
 use Rattle.bitmap.specs.Extents.{nearest, starts}
 use Rattle.bitmap.specs.Round.{wrapped, afterLast}
 use Rattle.bitmap.proofs.Laws.Extents.{nearest-none, member-some}
 use Rattle.bitmap.proofs.Laws.Round.{after-last-at}
-use Rattle.model_types.specs.declared.error.Error.the-variants.{NoExtent}
+use Rattle.model_types.specs.declared.error.Error.the-variants.{MemoryInvalid, WorkPending, SlotRange, SlotIdle, SlotPrecommitted, CountRange, ListShort, BlockRange, NoExtent}
 use Rattle.model_types.specs.declared.memory.Slot.{Slot}
 use Rattle.model_types.specs.declared.memory.Memory.{Memory}
 use Rattle.model_types.specs.Memory.{slotAt}
-use Rattle.model.specs.First.{first}
-use Rattle.model.specs.Causes.{countOutOfRange, listShort, blockOutOfRange, extentStarts, noExtent}
+use Rattle.model.specs.First.{Cause, first, _⇒_}
+use Rattle.model.specs.Available.{available}
+use Rattle.model.specs.Reserves.{othersReserved}
+use Rattle.model.specs.Causes.{memoryInvalid, workPending, slotOutOfRange, slotInactive, slotPrecommitted, countOutOfRange, listShort, blockOutOfRange, extentStarts, noExtent, reservedForOthers}
 use Rattle.model.specs.Calls.Precommit.{precommitError}
 use Rattle.model.specs.Calls.AllocateExtent.{allocateExtentError, nearestExtent}
 use Rattle.model_types.proofs.Laws.Shape.{Shaped}
@@ -28,11 +32,11 @@ use Rattle.model.proofs.Laws.Accepted.{count-some, count-few, block-below, prec
 use Rattle.model.proofs.Laws.Extents.{nearestStart, nearest-extent, nearest-at, nearest-length}
 use Rattle.verdicts.specs.declared.verdict.Verdict.{Verdict}
 use Rattle.verdicts.specs.Verdicts.{verdict, isAccepted, unlessHolds, thenCauses}
-use Rattle.verdicts.proofs.Laws.Verdicts.{one-more, then-causes, then-passed, tested-last, accepted-none}
+use Rattle.verdicts.proofs.Laws.Verdicts.{one-more, then-causes, then-same, then-passed, none-before, tested-last, unless-passed, accepted-none}
 use Rattle.available.specs.Take.{Takes}
 use Rattle.extents.specs.Take.{CanTake, LiesIn, TakesExtent}
 use Rattle.extents.specs.Nearest.{CanSearch}
-use Rattle.allocate_extent.specs.Causes.{requestCauses}
+use Rattle.allocate_extent.specs.Causes.{requestCauses, spareCauses}
 
 module _ (memory : Memory) (s count near : ℕ) (list : List ℕ) where
   -- ---- the causes
@@ -55,16 +59,49 @@ module _ (memory : Memory) (s count near : ℕ) (list : List ℕ) where
           inside = block-below memory near (c18 .0);
         }
 
+    -- all causes but the last
+    abbrev earlierCauses : List Cause
+    earlierCauses =
+        memoryInvalid memory ⇒ MemoryInvalid
+        ∷ workPending memory ⇒ WorkPending
+        ∷ slotOutOfRange s ⇒ SlotRange
+        ∷ slotInactive memory s ⇒ SlotIdle
+        ∷ slotPrecommitted memory s ⇒ SlotPrecommitted
+        ∷ countOutOfRange count ⇒ CountRange
+        ∷ listShort list count ⇒ ListShort
+        ∷ blockOutOfRange memory near ⇒ BlockRange
+        ∷ noExtent memory count ⇒ NoExtent
+        ∷ []
+
     -- with 22 tested where no other cause holds
-    pub extent-verdict : {v : Verdict} {t : Bool} → v ≡ unlessHolds request t NoExtent → (isAccepted request ≡ true → t ≡ noExtent memory count)
-        → v ≡ verdict (allocateExtentError memory s count near list)
-    unfolding precommitError allocateExtentError countOutOfRange listShort blockOutOfRange
-    extent-verdict e tested =
+    found-verdict : {found : Verdict} {t : Bool} → found ≡ unlessHolds request t NoExtent → (isAccepted request ≡ true → t ≡ noExtent memory count)
+        → found ≡ verdict (first earlierCauses)
+    unfolding precommitError countOutOfRange listShort blockOutOfRange
+    found-verdict e tested =
         e
         ∙ tested-last request (noExtent memory count) NoExtent tested
         ∙ ap (λ (v : Verdict). unlessHolds v (noExtent memory count) NoExtent)
         (asked ∙ ap (λ (v : Verdict). thenCauses v (requestCauses (memory .blocks) count near list)) is-open ∙ then-causes _ _)
         ∙ one-more _ (noExtent memory count) NoExtent
+
+    -- so an extent that was found is in a volume that isn't too large
+    pub found-few : {found : Verdict} (t : Bool) → found ≡ unlessHolds request t NoExtent → isAccepted found ≡ true → memory .blocks ≤ maxBlocks
+    found-few t e accepted = can-search (unless-passed request t NoExtent e accepted) .volume
+
+    -- and 24 behind it
+    pub extent-verdict : {found v : Verdict} {t : Bool} (reserved : ℕ)
+        → found ≡ unlessHolds request t NoExtent
+        → (isAccepted request ≡ true → t ≡ noExtent memory count)
+        → v ≡ thenCauses found (spareCauses (memory .blocks) (memory .sam .words) (memory .com .words) count reserved)
+        → (precommitError memory s ≡ none → reserved ≡ othersReserved (memory .reserves) s)
+        → v ≡ verdict (allocateExtentError memory s count near list)
+    unfolding precommitError allocateExtentError reservedForOthers available
+    extent-verdict reserved e tested spared others =
+        spared
+        ∙ rw (found-verdict e tested)
+        (then-same (first earlierCauses) _ _
+        (λ passed. ap (spareCauses (memory .blocks) (memory .sam .words) (memory .com .words) count) (others (none-before (take 5 earlierCauses) (drop 5 earlierCauses) passed)))
+        ∙ then-causes earlierCauses _)
 
   -- ---- the search
 

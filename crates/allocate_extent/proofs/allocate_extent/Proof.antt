@@ -5,30 +5,30 @@ use native.Mathlib.Omega.{arith}
 use mathlib.Core.Path.{_≡_, refl, sym, ap, ap₂, _∙_}
 use mathlib.Core.Logic.{⊎-elim}
 use mathlib.Core.Bool.{true}
-use mathlib.Core.Option.{Option}
-use mathlib.Core.List.{List, _++_}
-use lib.ListN.{length, set, drop}
+use mathlib.Core.Option.{Option, none}
+use mathlib.Core.List.{_++_}
+use lib.ListN.{length, getD, set, drop}
 use lib.Dec.{eqb}
-use Rattle.bitmap.specs.declared.Bitmap.{Bitmap}
+use Rattle.bitmap.specs.Sizes.{slotIndex, IsSlot}
 use Rattle.model_types.specs.declared.error.Error.{Error}
 use Rattle.model_types.specs.declared.error.Error.the-variants.{NoExtent}
 use Rattle.model_types.specs.declared.answer.GrantAnswer.{GrantAnswer}
-use Rattle.model_types.specs.declared.memory.Slot.{Slot}
-use Rattle.model_types.specs.declared.memory.Memory.{Memory}
 use Rattle.model_types.specs.Answers.{granted}
-use Rattle.model_types.specs.Memory.{withCursor, withCom, withSlots}
+use Rattle.model_types.specs.Memory.{noReserve}
+use Rattle.model.specs.Reserves.{othersReserved, drawing}
 use Rattle.model.specs.Calls.Allocate.{taking}
 use Rattle.model.specs.Calls.Precommit.{precommitError}
 use Rattle.model.specs.Calls.AllocateExtent.{allocateExtentError, nearestExtent, allocateExtentAnswer, allocateExtentMemory, allocateExtentList}
 use Rattle.model_types.proofs.Laws.Shape.{Shaped, shaped}
 use Rattle.model.proofs.Laws.Valid.{valid-parts}
-use Rattle.model.proofs.Laws.Accepted.{AllocateExtentAccepted, allocate-extent-accepted}
-use Rattle.model.proofs.Laws.Extents.{nearestStart}
+use Rattle.model.proofs.Laws.Fit.{few-reserved, few-drawn}
+use Rattle.model.proofs.Laws.Accepted.{AllocateExtentAccepted, precommit-accepted, allocate-extent-accepted}
+use Rattle.model.proofs.Laws.Extents.{nearestStart, nearest-length}
 use Rattle.verdicts.specs.Verdicts.{verdict, isAccepted}
-use Rattle.verdicts.proofs.Laws.Verdicts.{unless-passed, error-of, accepted-none, accepted-leaves, refused-leaves, first-answered, none-answered}
+use Rattle.verdicts.proofs.Laws.Verdicts.{unless-passed, then-passed, error-of, accepted-none, accepted-leaves, refused-leaves, first-answered, none-answered}
 use Rattle.verdicts.proofs.Laws.Ready.{index-is, own-slot, owner-read, open-verdict}
-use Rattle.available.proofs.Laws.Took.{took}
-use Rattle.allocate_extent.proofs.Laws.AllocateExtent.{can-search, extent-verdict, start-is, none-found, start-first, within, moved-behind, can-take, took-nearest}
+use Rattle.available.proofs.Laws.Took.{took, same-parts}
+use Rattle.allocate_extent.proofs.Laws.AllocateExtent.{can-search, found-few, extent-verdict, start-is, none-found, start-first, within, moved-behind, can-take, took-nearest}
 use borrow.Author.Needs.{needs}
 use Rattle.allocate_extent.proofs.allocate_extent.Statement.{statement}
 use Rattle.allocate_extent.proofs.allocate_extent.Tie as tie
@@ -40,7 +40,7 @@ shape-at c = shaped (c .args .memory) _ (c .good .0)
 
 -- where the causes of an open slot are tested
 abbrev entered : tie.After-open → tie.Start
-entered c = c .before .before .before .before .before .before .before .before .before .before .before .before .before .before
+entered c = c .before .before .before .before .before .before .before .before .before .before .before .before .before .before .before
 
 open-is : (c : tie.After-open) → c .open .result ≡ verdict (precommitError (entered c .args .memory) (entered c .args .slot))
 open-is c =
@@ -64,18 +64,30 @@ found-start c e =
 
 -- where all causes are tested
 abbrev tested : tie.After-is-accepted → tie.After-search
-tested c = c .before .before .before
+tested c = c .before .before .before .before .before .before .before .before .before
+
+-- what the others have reserved, where there is such a slot
+others-are : (c : tie.After-is-accepted)
+    → let a = entered (opened (requested (tested c))) .args in
+    precommitError (a .memory) (a .slot) ≡ none → c .before .before .before .before .before .before .before .others .result ≡ othersReserved (a .memory .reserves) (a .slot)
+others-are c passed =
+    let after-open = opened (requested (tested c)) in
+    let a = entered after-open .args in
+    c .before .before .before .before .before .before .before .others .ensures
+    ∙ ap (othersReserved (a .memory .reserves)) (index-is (a .slot) (after-open .before .before .slot-index .ensures) (precommit-accepted _ _ passed .ready .below))
 
 verdict-is : (c : tie.After-is-accepted)
     → let a = entered (opened (requested (tested c))) .args in
-    c .before .before .unless .result ≡ verdict (allocateExtentError (a .memory) (a .slot) (a .count) (a .near) (a .list .now))
+    c .before .before .spare .result ≡ verdict (allocateExtentError (a .memory) (a .slot) (a .count) (a .near) (a .list .now))
 verdict-is c =
     let r = requested (tested c) in
     let a = entered (opened r) .args in
-    extent-verdict (a .memory) (a .slot) (a .count) (a .near) (a .list .now) (r .request .ensures) (open-is (opened r)) (c .before .before .unless .ensures)
+    extent-verdict (a .memory) (a .slot) (a .count) (a .near) (a .list .now) (r .request .ensures) (open-is (opened r)) _ (c .before .before .before .before .before .before .before .before .unless .ensures)
     (λ e.
     let can = can-search (a .memory) (a .slot) (a .count) (a .near) (a .list .now) (r .request .ensures) (open-is (opened r)) e in
     ap (λ (b : ℕ). eqb b (a .memory .blocks)) (found-start (tested c) e) ∙ none-found (a .memory) (a .slot) (a .count) (a .near) (a .list .now) (can .some))
+    (c .before .before .spare .ensures)
+    (others-are c)
 
 -- where none holds
 told : (c : tie.Then1)
@@ -88,7 +100,14 @@ accepted-start : (c : tie.Then1)
     tested (c .before) .search .result ≡ nearestStart (a .memory) (a .count) (a .near)
 accepted-start c =
     found-start (tested (c .before))
-    (unless-passed (requested (tested (c .before)) .request .result) _ NoExtent (c .before .before .before .unless .ensures) (sym (c .before .is-accepted .ensures) ∙ c .if1 .taken))
+    (unless-passed (requested (tested (c .before)) .request .result) _ NoExtent (c .before .before .before .before .before .before .before .before .before .unless .ensures)
+    (then-passed (c .before .before .before .before .before .before .before .before .before .unless .result) _ (sym (ap isAccepted (c .before .before .before .spare .ensures)) ∙ sym (c .before .is-accepted .ensures) ∙ c .if1 .taken) .0))
+
+-- the slot that is looked at
+slot-at : (c : tie.Then1)
+    → let after-open = opened (requested (tested (c .before))) in
+    IsSlot (slotIndex (entered after-open .args .slot)) (after-open .before .before .slot-index .result)
+slot-at c = opened (requested (tested (c .before))) .before .before .slot-index .ensures
 
 -- ---- the needs
 
@@ -103,7 +122,7 @@ array-copy-out-owner c = search needs
 
 valid-requires : tie.Need-valid-requires
 valid-requires c κs =
-    let b = c .before .before .before .before .before .before .before .before .before .before in
+    let b = c .before .before .before .before .before .before .before .before .before .before .before in
     let shape = shape-at b in
     (shape .sam, (shape .com, owner-read (b .args .memory) _ shape (c .before .before .before .before .before .owner .ensures)))
 
@@ -133,6 +152,35 @@ search-requires c κs =
 unless-requires : tie.Need-unless-requires
 unless-requires c κs = search needs
 
+others-requires : tie.Need-others-requires
+others-requires c κs = c .before .before .before .before .before .before .before .before .before .before .slot-index .ensures .below
+
+spare-requires : tie.Need-spare-requires
+spare-requires c κs =
+    let r = requested (c .before .before .before .before .before .before) in
+    let b = entered (opened r) in
+    let a = b .args in
+    let shape = shape-at b in (
+      shape .sam,
+      (
+        shape .com,
+        λ e.
+            found-few (a .memory) (a .slot) (a .count) (a .near) (a .list .now) (r .request .ensures) (open-is (opened r)) _ (c .before .before .before .before .before .unless .ensures) e,
+      ),
+    )
+
+draw-requires : tie.Need-draw-requires
+draw-requires c κs =
+    let then = c .before .before .before .before .before .before in
+    let t = told then in
+    let memory = entered (opened (requested (tested (then .before)))) .args .memory in
+    let parts = valid-parts memory (t .ready .is-valid) in
+    let at = slot-at then in
+    (
+      at .below,
+      (record { reservation = few-reserved memory _ parts; drawn = few-drawn memory _ parts (at .below) }, t .few),
+    )
+
 grant-requires : tie.Need-grant-requires
 grant-requires c κs = search needs
 
@@ -147,14 +195,14 @@ take-extent-requires c κs =
     can-take (b .args .memory) (b .args .slot) (b .args .count) (b .args .near) (b .args .list .now) t (accepted-start accepted) (valid-parts _ (t .ready .is-valid))
 
 mul-slots : tie.Need-mul-slots
-mul-slots c = search needs
+mul-slots c = omega (arith, slot-at (c .before .before .before .before .before .before) .below)
 
 array-set-from-slots : tie.Need-array-set-from-slots
-array-set-from-slots c = search needs
+array-set-from-slots c = omega (arith, slot-at (c .before .before .before .before .before .before) .below)
 
 add-wrapped : tie.Need-add-wrapped
 add-wrapped c =
-    let accepted = c .before .before .before .before .before .before in
+    let accepted = c .before .before .before .before .before .before .before in
     let t = told accepted in
     let b = entered (opened (requested (tested (accepted .before)))) in
     let parts = valid-parts _ (t .ready .is-valid) in
@@ -164,7 +212,7 @@ wrapped-requires : tie.Need-wrapped-requires
 wrapped-requires c κs = search needs
 
 same-length : tie.Need-same-length
-same-length c = ⊎-elim (λ w. ap length (w .8) ∙ w .4 .kept .1 .1 .0) (λ w. ap length (w .1)) (c .if1 .came)
+same-length c = ⊎-elim (λ w. ap length (w .9) ∙ w .4 .kept .1 .1 .0) (λ w. ap length (w .1)) (c .if1 .came)
 
 returns : tie.Need-returns
 unfolding allocateExtentAnswer allocateExtentMemory allocateExtentList
@@ -177,7 +225,6 @@ returns c =
     let blocks = nearestExtent (a .memory) (a .count) (a .near) in
     let new = taking (a .memory) (a .slot) blocks in
     let list = blocks ++ drop (a .count) (a .list .now) in
-    let left : Bitmap → List Slot → Memory = λ «com» slots. withCursor (withSlots (withCom (a .memory) «com») slots) (c .if1 .first) in
     let is = verdict-is accepted in
     let test = accepted .is-accepted .ensures in
     ⊎-elim
@@ -185,24 +232,26 @@ returns c =
     let at : tie.Then1 = record { before = accepted; if1 = w .0 } in
     let t = told at in
     let shape = shape-at (entered after-open) in
+    let index = index-is (a .slot) looked (t .ready .below) in
     let read = own-slot (a .memory) _ (a .slot) shape looked (t .ready .below) in
     let taken = took-nearest (a .memory) (a .slot) (a .count) (a .near) (a .list .now) t (accepted-start at) (valid-parts _ (t .ready .is-valid)) _ read shape _ _ _ (w .4 .ensures) in (
-      w .12
+      w .14
           ∙ ap GrantAnswer.First (accepted-start at ∙ start-first (a .memory) (a .slot) (a .count) (a .near) (a .list .now) t)
           ∙ first-answered error _ (accepted-none error is test (w .0 .taken)),
       (
-        ap₂ left (w .10) (w .11 ∙ ap₂ (set (a .memory .slots)) (index-is (a .slot) looked (t .ready .below)) refl)
-            ∙ took (a .memory) (a .slot) (a .count) (c .if1 .first) _ read blocks (a .list .now) _ _ _ taken
-            (w .9 ∙ w .7 .ensures ∙ moved-behind (a .memory) (a .slot) (a .count) (a .near) (a .list .now) t (accepted-start at) (valid-parts _ (t .ready .is-valid)))
+        same-parts (a .memory) refl (w .11) (w .12 ∙ ap₂ (set (a .memory .slots)) index refl) refl
+            ∙ took (a .memory) (a .slot) (a .count) (c .if1 .first) _ (c .if1 .reserves) read blocks (a .list .now) _ _ _ taken
+            (w .10 ∙ w .8 .ensures ∙ moved-behind (a .memory) (a .slot) (a .count) (a .near) (a .list .now) t (accepted-start at) (valid-parts _ (t .ready .is-valid)))
+            (w .13 ∙ w .7 .ensures ∙ ap (λ (i : ℕ). set (a .memory .reserves) i (drawing (getD (a .memory .reserves) i noReserve) (a .count))) index)
+            (nearest-length (a .memory) (a .count) (a .near))
             ∙ accepted-leaves error new (a .memory) is test (w .0 .taken),
-        w .8 ∙ taken .listed ∙ accepted-leaves error list (a .list .now) is test (w .0 .taken),
+        w .9 ∙ taken .listed ∙ accepted-leaves error list (a .list .now) is test (w .0 .taken),
       ),
     ))
     (λ w. (
-      w .5 ∙ accepted .before .grant .ensures ∙ ap (λ (e : Option Error). granted e 0) (error-of error is) ∙ none-answered error 0 _ is test (w .0 .left),
+      w .6 ∙ accepted .before .grant .ensures ∙ ap (λ (e : Option Error). granted e 0) (error-of error is) ∙ none-answered error 0 _ is test (w .0 .left),
       (
-        ap₂ left (w .3) (w .4)
-            ∙ ap (withCursor (a .memory)) (w .2)
+        same-parts (a .memory) (w .2) (w .3) (w .4) (w .5)
             ∙ refused-leaves error new (a .memory) is test (w .0 .left),
         w .1 ∙ refused-leaves error list (a .list .now) is test (w .0 .left),
       ),
@@ -224,11 +273,14 @@ allocate-extent-spec =
     request-requires
     search-requires
     unless-requires
+    others-requires
+    spare-requires
     grant-requires
     is-accepted-requires
     take-extent-requires
     mul-slots
     array-set-from-slots
+    draw-requires
     add-wrapped
     wrapped-requires
     same-length

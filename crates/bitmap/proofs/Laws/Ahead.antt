@@ -1,15 +1,17 @@
 -- The order in which blocks are met going round: whatever rank rises along the way, it rises along the list.
-use Prim.Native.Nat.{ℕ, zero, suc, _≤_, _<_}
+use Prim.Native.Nat.{ℕ, zero, suc, _+_, _≤_, _<_}
 use native.Mathlib.Nat.{not-suc-le-zero, le-refl, le-of-suc-le-suc}
 use native.Mathlib.Omega.{arith}
 use mathlib.Core.Path.{_≡_, refl, sym, ap}
 use mathlib.Core.Logic.{⊎-elim}
-use mathlib.Core.Bool.{Bool, true, false≢true}
+use mathlib.Core.Bool.{Bool, true, false, cond, false≢true}
 use mathlib.Core.List.{List, [], _∷_, _++_, append-nil}
 use lib.ListN.{length, getD, take}
+use lib.Dec.{ltb}
+use borrow.Author.Tests.{lt-ltb, le-ltb}
 use Rattle.bitmap.specs.Blocks.{from, member}
 use Rattle.bitmap.specs.Round.{roundFrom}
-use Rattle.bitmap.proofs.Laws.Blocks.{append-member, member-cons, getD-member, member-first, member-rest, member-from-true, from-rest}
+use Rattle.bitmap.proofs.Laws.Blocks.{Distinct, append-member, member-cons, getD-member, member-first, member-rest, member-from-true, from-rest}
 use Rattle.bitmap.proofs.Laws.Extents.{member-some}
 use Rattle.bitmap.proofs.Laws.Round.{first-found}
 
@@ -39,6 +41,15 @@ module _ (rank : ℕ → ℕ) where
       (λ j. member-rest c x (take k blocks) (rises-first blocks k b c (r .1) j i l))
       (member-cons b x (take k blocks) h))
       (member-cons c x blocks m)
+
+  -- and no block is in it twice
+  pub rises-distinct : (blocks : List ℕ) → Rises blocks → Distinct blocks
+  rises-distinct [] r = tt
+  rises-distinct (x ∷ blocks) r = (go (member x blocks) refl, rises-distinct blocks (r .1))
+    where
+      go : (t : Bool) → member x blocks ≡ t → t ≡ false
+      go true e = absurd (omega (arith, r .0 x e))
+      go false e = refl
 
   -- ---- going round
 
@@ -73,3 +84,21 @@ module _ (rank : ℕ → ℕ) where
   round-rises test m p high wrap low =
       rises-onto test m p (from test p 0) high (λ a b l h k. wrap a b l h (member-from-true test p 0 b k .1))
       (rw append-nil at (rises-onto test p 0 [] (λ a b _. low a b) (λ a b _ _ k. absurd (false≢true k)) tt))
+
+-- so no block is met twice, whatever is searched first: rank those before it behind all others
+pub round-distinct : (test : ℕ → Bool) (m p : ℕ) → Distinct (roundFrom test m p)
+round-distinct test m p =
+    rises-distinct rank (roundFrom test m p)
+    (round-rises rank test m p
+    (λ a b l h k. omega (arith, from-there a l, from-there b (omega arith)))
+    (λ a b l h k. omega (arith, from-there a l, before-it b k))
+    (λ a b h k. omega (arith, before-it a (omega arith), before-it b k)))
+  where
+    rank : ℕ → ℕ
+    rank b = cond (ltb b p) (b + m) b
+
+    from-there : (b : ℕ) → p ≤ b → rank b ≡ b
+    from-there b l = rw (le-ltb b p l)
+
+    before-it : (b : ℕ) → b < p → rank b ≡ b + m
+    before-it b l = rw (lt-ltb b p l)

@@ -82,6 +82,23 @@ member-take (suc n) b [] h = h
 member-take (suc n) b (x ∷ xs) h =
     ⊎-elim (λ e. rw (eq-eqb b x e)) (λ k. member-rest b x xs (member-take n b xs k)) (member-cons b x (take n xs) h)
 
+-- ---- no block twice
+
+-- each block of a list is in none of its later places
+abbrev pub Distinct : List ℕ → Type 0
+Distinct [] = Unit {0}
+Distinct (x ∷ xs) = (member x xs ≡ false) × Distinct xs
+
+-- so it is of a list's start
+pub distinct-take : (n : ℕ) (xs : List ℕ) → Distinct xs → Distinct (take n xs)
+distinct-take zero xs d = tt
+distinct-take (suc n) [] d = tt
+distinct-take (suc n) (x ∷ xs) d = (go (member x (take n xs)) refl, distinct-take n xs (d .1))
+  where
+    go : (t : Bool) → member x (take n xs) ≡ t → t ≡ false
+    go true e = absurd (false≢true (sym (d .0) ∙ member-take n x xs e))
+    go false e = refl
+
 -- ---- what a scan finds
 
 -- of a scan of n blocks from p on: each is one of these, and the test holds there

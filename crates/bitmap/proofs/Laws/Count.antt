@@ -1,16 +1,16 @@
 -- How many blocks a scan finds, and the blocks of a volume by their bits in SAM and COM.
-use Prim.Native.Nat.{ℕ, zero, suc, _+_, _-_, _≤_, _<_}
+use Prim.Native.Nat.{ℕ, zero, suc, _+_, _-_, _≤_, _<_, zero-le}
 use native.Mathlib.Nat.{zero-add, sub-zero, le-refl}
 use native.Mathlib.Omega.{arith}
-use mathlib.Core.Path.{_≡_, refl, ap, _∙_}
-use mathlib.Core.Bool.{Bool, true, false, not, cond, _&&_, _||_}
+use mathlib.Core.Path.{_≡_, refl, sym, ap, _∙_}
+use mathlib.Core.Bool.{Bool, true, false, not, cond, _&&_, _||_, false≢true}
 use mathlib.Core.List.{List, [], _∷_}
 use lib.ListN.{length, length-append}
 use lib.Dec.{eqb}
-use borrow.Author.Tests.{eqb-true, ne-eqb}
+use borrow.Author.Tests.{eqb-true, eq-eqb, ne-eqb}
 use Rattle.bitmap.specs.Bits.{bit}
 use Rattle.bitmap.specs.Blocks.{scan, from, allocatedBlocks, isAvailable, availableBlocks, isAllocating, allocatingBlocks, isFreeing, freeingBlocks, isHeld, heldBlocks, member}
-use Rattle.bitmap.proofs.Laws.Blocks.{from-skip, from-end, scan-append}
+use Rattle.bitmap.proofs.Laws.Blocks.{Distinct, from-skip, from-end, scan-append, member-first, member-rest}
 
 -- ---- a scan in parts
 
@@ -88,6 +88,27 @@ count-both test one two p (suc n) few =
       count-both test one two (suc p) n (λ b l h. few b (omega arith) (omega arith)),
     )
 
+-- and where two tests hold at no more blocks than another, each counted by itself, they find no more than it
+count-parts : (one two test : ℕ → Bool) (p n : ℕ)
+    → ((b : ℕ) → p ≤ b → b < p + n → cond (one b) 1 0 + cond (two b) 1 0 ≤ cond (test b) 1 0)
+    → length (scan one p n) + length (scan two p n) ≤ length (scan test p n)
+count-parts one two test p zero few = omega (arith, count-zero one p, count-zero two p)
+count-parts one two test p (suc n) few =
+    omega (
+      arith,
+      count-suc test p n,
+      count-suc one p n,
+      count-suc two p n,
+      few p (le-refl p) (omega arith),
+      count-parts one two test (suc p) n (λ b l h. few b (omega arith) (omega arith)),
+    )
+
+pub count-disjoint : (one two test : ℕ → Bool) (m : ℕ)
+    → ((b : ℕ) → b < m → cond (one b) 1 0 + cond (two b) 1 0 ≤ cond (test b) 1 0)
+    → length (from one m 0) + length (from two m 0) ≤ length (from test m 0)
+unfolding from
+count-disjoint one two test m few = rw (sub-zero m) (count-parts one two test 0 m (λ b l h. few b (omega (arith, h))))
+
 -- one block is found once: not after it, and not twice
 count-after : (x p n : ℕ) → x < p → length (scan (λ b. eqb b x) p n) ≡ 0
 count-after x p zero h = count-zero (λ b. eqb b x) p
@@ -137,6 +158,21 @@ unfolding from
 count-more test old xs m few =
     rw (sub-zero m)
     (omega (arith, count-both test (λ b. member b xs) old 0 m (λ b l h. few b (omega (arith, h))), count-member xs 0 m))
+
+-- a list that has no block twice, of blocks below m, has no more than a scan of the volume finds in it
+pub count-distinct : (xs : List ℕ) (m : ℕ) → Distinct xs → ((b : ℕ) → member b xs ≡ true → b < m) → length xs ≤ length (from (λ b. member b xs) m 0)
+unfolding member from
+count-distinct [] m d below = zero-le
+count-distinct (x ∷ xs) m d below =
+    let here = below x (member-first x x xs refl) in
+    let found : 1 ≤ length (scan (λ b. eqb b x) 0 m) = count-found (λ b. eqb b x) 0 m x here (rw (zero-add x) (eq-eqb x x refl)) in
+    let rest : length xs ≤ length (from (λ b. member b xs) m 0) = count-distinct xs m (d .1) (λ b h. below b (member-rest b x xs h)) in
+    omega (arith, rw (← sub-zero m) at found, rest, count-disjoint (λ b. eqb b x) (λ b. member b xs) (λ b. eqb b x || member b xs) m (λ b h. go b (eqb b x) (member b xs) refl refl))
+  where
+    go : (b : ℕ) (t u : Bool) → eqb b x ≡ t → member b xs ≡ u → cond t 1 0 + cond u 1 0 ≤ cond (t || u) 1 0
+    go b true true e f = absurd (false≢true (sym (d .0) ∙ sym (ap (λ (y : ℕ). member y xs) (eqb-true b x e)) ∙ f))
+    go b true false e f = omega arith
+    go b false u e f = omega arith
 
 -- a scan in two parts, of which the first finds something if the test holds there
 pub count-later : (test : ℕ → Bool) (m p n : ℕ) → p + n ≤ m → length (from test m (p + n)) ≤ length (from test m p)

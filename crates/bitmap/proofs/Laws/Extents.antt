@@ -12,7 +12,7 @@ use borrow.Author.Tests.{leb-true, le-leb, ltb-true, ltb-false, eqb-true, eqb-fa
 use Rattle.bitmap.specs.Blocks.{from, member, allBelow}
 use Rattle.bitmap.specs.Extents.{adjoining, isStart, starts, distance, nearer, nearestOf, nearest}
 use Rattle.bitmap.proofs.Laws.Bits.{below-or-from}
-use Rattle.bitmap.proofs.Laws.Blocks.{allBelow-at, allBelow-all, member-cons, member-first, member-rest, member-from-true, member-from}
+use Rattle.bitmap.proofs.Laws.Blocks.{Distinct, allBelow-at, allBelow-all, member-cons, member-first, member-rest, member-from-true, member-from}
 
 -- ---- the blocks of an extent
 
@@ -33,6 +33,16 @@ member-adjoining b p zero h = absurd (false≢true h)
 member-adjoining b p (suc n) h =
     ⊎-elim (λ e. (omega arith, omega arith)) (λ k. let f = member-adjoining b (suc p) n k in (omega (arith, f .0), omega (arith, f .1)))
     (member-cons b p (adjoining (suc p) n) h)
+
+pub distinct-adjoining : (p n : ℕ) → Distinct (adjoining p n)
+unfolding adjoining
+distinct-adjoining p zero = tt
+distinct-adjoining p (suc n) = (go (member p (adjoining (suc p) n)) refl, distinct-adjoining (suc p) n)
+  where
+    go : (t : Bool) → member p (adjoining (suc p) n) ≡ t → t ≡ false
+    go true e = absurd (omega (arith, member-adjoining p (suc p) n e .0))
+    go false e = refl
+
 
 -- ---- starts
 

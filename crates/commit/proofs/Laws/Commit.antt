@@ -55,7 +55,7 @@ module _ (memory : Memory) (s : ℕ) (shape : Shaped memory) (told : CommitAccep
   unfolding committing
   none-left z =
       let none = none-changed z in
-      unchanged-committed memory s shape parts (told .ready .nothing-pending) (committed-tam memory s parts (shape .tam s) (told .active)) (changed-tam ∙ none)
+      unchanged-committed memory s shape parts (told .ready .below) (told .ready .nothing-pending) (committed-tam memory s parts (shape .tam s) (told .active)) (changed-tam ∙ none)
       ∙ rw (eq-eqb (changedOf memory s) 0 none)
 
   -- else its stores are pending

@@ -1,24 +1,29 @@
--- A commit that changes no word of SAM leaves the other slots as they are.
-use Prim.Native.Nat.{ℕ, zero, suc, _≤_}
+-- A commit that changes no word of SAM leaves the other slots as they are, and what is reserved.
+use Prim.Native.Nat.{ℕ, zero, suc, _≤_, _<_}
 use native.Mathlib.Omega.{arith}
 use mathlib.Core.Path.{_≡_, refl, sym, ap, ap₂, _∙_}
-use mathlib.Core.Bool.{Bool, true, false, cond, xor}
+use mathlib.Core.Bool.{Bool, true, false, not, cond, xor, _&&_}
 use mathlib.Core.List.{List, [], _∷_, map}
 use lib.ListN.{length, getD, set}
 use lib.Dec.{eqb}
 use borrow.Author.Tests.{eqb-true}
+use Rattle.bitmap.specs.Sizes.{slotCount}
 use Rattle.bitmap.specs.Bits.{bit, bitmapOf, noBitsFrom, IsBitmap}
 use Rattle.bitmap.proofs.Laws.Bits.{bitmapOf-bit, bitmapOf-same}
 use Rattle.model_types.specs.declared.memory.Slot.{Slot}
+use Rattle.model_types.specs.declared.memory.Reserve.{Reserve}
 use Rattle.bitmap.specs.declared.Bitmap.{Bitmap}
 use Rattle.model_types.specs.declared.memory.Pending.{Pending}
 use Rattle.model_types.specs.declared.memory.Pending.the-variants.{Nothing}
 use Rattle.model_types.specs.declared.memory.Memory.{Memory}
-use Rattle.model_types.specs.Memory.{bitmap, withTam, slotAt, idleSlot, withSlot, withSlots, withSam, withPending, samBit, isActive}
+use Rattle.model_types.specs.Memory.{bitmap, withTam, slotAt, idleSlot, reserveAt, reserveOf, noReserve, withSlot, withSlots, withSam, withReserves, withPending, samBit, isActive}
+use Rattle.model.specs.Reserves.{usedUp}
+use Rattle.model.specs.Valid.{takenBlocks}
 use Rattle.model.specs.Stores.{_≔_, changesFrom, changes}
 use Rattle.model.specs.Commit.{committedSam, refreshed, committed}
 use Rattle.model_types.proofs.Laws.Shape.{Shaped}
 use Rattle.model.proofs.Laws.Valid.{ValidParts, slot-below}
+use Rattle.model.proofs.Laws.Fit.{took-is, none-taken}
 use Rattle.model.proofs.Laws.Touches.{xor-self}
 
 -- ---- lists
@@ -62,15 +67,43 @@ refreshed-same memory slot few is below = go (isActive (slot .state))
     go true = ap (λ (words : List ℕ). withTam slot (bitmap words)) same
     go false = refl
 
+-- ---- what is reserved
+
+-- a reserve put where it was
+set-own : (reserves : List Reserve) (s : ℕ) → set reserves s (getD reserves s noReserve) ≡ reserves
+set-own [] s = refl
+set-own (reserve ∷ reserves) zero = refl
+set-own (reserve ∷ reserves) (suc s) = ap (λ (l : List Reserve). reserve ∷ l) (set-own reserves s)
+
+-- a slot whose bitmap is SAM took nothing, so it has drawn nothing that could be used up
+nothing-used : (memory : Memory) (s : ℕ) → ValidParts memory → s < slotCount → memory .sam .words ≡ slotAt memory s .tam .words
+    → memory .reserves ≡ set (memory .reserves) s (usedUp (reserveAt memory s))
+unfolding usedUp
+nothing-used memory s parts below same =
+    let none : length (takenBlocks memory s) ≡ 0 =
+    none-taken memory s (λ b. took-is memory (slotAt memory s) b ∙ ap (λ (words : List ℕ). bit words b && not (samBit memory b)) (sym same) ∙ go (samBit memory b)) in
+    let undrawn : reserveAt memory s .drawn ≡ 0 = omega (arith, parts .reserves-fit .drawn s below, none) in
+    sym (set-own (memory .reserves) s) ∙ ap (λ (drawn : ℕ). set (memory .reserves) s (reserveOf (reserveAt memory s .reservation) drawn)) undrawn
+  where
+    go : (t : Bool) → (t && not t) ≡ false
+    go true = refl
+    go false = refl
+
 -- the memory that such a commit leaves, with nothing pending
-pub unchanged-committed : (memory : Memory) (s : ℕ) → Shaped memory → ValidParts memory → memory .pending ≡ Nothing
+pub unchanged-committed : (memory : Memory) (s : ℕ) → Shaped memory → ValidParts memory → s < slotCount → memory .pending ≡ Nothing
     → committedSam memory s ≡ slotAt memory s .tam → length (changes (memory .sam .words) (slotAt memory s .tam .words)) ≡ 0
     → withSlot memory s idleSlot ≡ committed memory s
 unfolding committed
-unchanged-committed memory s shape parts nothing made none =
+unchanged-committed memory s shape parts below nothing made none =
     let same = no-changes 0 (memory .sam .words) (slotAt memory s .tam .words) (shape .sam .size ∙ sym (shape .tam s .size)) none in
     let sam = made ∙ ap bitmap (sym same) in
-    ap₂ (λ (slots : List Slot) (pending : Pending). withPending (withSlots memory (set slots s idleSlot)) pending)
+    ap (λ (reserves : List Reserve). withReserves (withSlot memory s idleSlot) reserves) (nothing-used memory s parts below same)
+    ∙ ap₂ (λ (slots : List Slot) (pending : Pending). withPending (withReserves (withSlots memory (set slots s idleSlot)) used) pending)
     (sym (map-same (refreshed memory (memory .sam)) (memory .slots) (λ t. refreshed-same memory (slotAt memory t) (parts .few-blocks) (shape .tam t) (slot-below memory t parts))))
     nothing
-    ∙ ap (λ (new : Bitmap). withPending (withSlots (withSam memory new) (set (map (refreshed memory new) (memory .slots)) s idleSlot)) Nothing) (sym sam)
+    ∙ ap
+    (λ (new : Bitmap). withPending (withReserves (withSlots (withSam memory new) (set (map (refreshed memory new) (memory .slots)) s idleSlot)) used) Nothing)
+    (sym sam)
+  where
+    used : List Reserve
+    used = set (memory .reserves) s (usedUp (reserveAt memory s))

@@ -35,7 +35,7 @@ abbrev judged : tie.After-is-accepted → tie.After-precommitted
 judged c = c .before .before .before .before .before .before .before
 
 abbrev entered : tie.After-is-accepted → tie.Start
-entered c = judged c .before .before .before .before .before .before .before .before .before .before .before .before .before
+entered c = judged c .before .before .before .before .before .before .before .before .before .before .before .before .before .before
 
 verdict-is : (c : tie.After-is-accepted) → judged c .precommitted .result ≡ verdict (commitError (entered c .args .memory) (entered c .args .slot))
 verdict-is c =
@@ -68,7 +68,7 @@ array-copy-out-owner c = search needs
 
 valid-requires : tie.Need-valid-requires
 valid-requires c κs =
-    let b = c .before .before .before .before .before .before .before .before .before in
+    let b = c .before .before .before .before .before .before .before .before .before .before in
     let shape = shape-at b in
     (shape .sam, (shape .com, owner-read (b .args .memory) _ shape (c .before .before .before .before .before .owner .ensures)))
 
@@ -86,7 +86,7 @@ precommitted-requires c κs = search needs
 
 stores-due-requires : tie.Need-stores-due-requires
 stores-due-requires c κs =
-    let b = c .before .before .before .before .before .before .before .before .before .before .before .before .before .before .before .before .before in
+    let b = c .before .before .before .before .before .before .before .before .before .before .before .before .before .before .before .before .before .before in
     (shape-at b .sam, own-tam (b .args .memory) _ (shape-at b) (c .before .before .before .before .before .before .slot-index .ensures))
 
 stores-requires : tie.Need-stores-requires

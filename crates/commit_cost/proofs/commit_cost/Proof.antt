@@ -1,9 +1,10 @@
 -- The causes of an open slot and of the count decide; accepted, the answer goes by the blocks touched.
 use native.Mathlib.Omega.{arith}
 use mathlib.Core.Path.{_≡_, refl, ap, _∙_}
-use mathlib.Core.Option.{Option}
+use mathlib.Core.Option.{Option, none}
 use Rattle.model_types.specs.declared.error.Error.{Error}
 use Rattle.model_types.specs.Answers.{due}
+use Rattle.model.specs.Reserves.{othersReserved}
 use Rattle.model.specs.Calls.Precommit.{precommitError}
 use Rattle.model.specs.Calls.CommitCost.{commitCostError, commitCost, commitCostAnswer}
 use Rattle.model_types.proofs.Laws.Shape.{Shaped, shaped}
@@ -11,7 +12,7 @@ use Rattle.model.proofs.Laws.Valid.{valid-parts}
 use Rattle.model.proofs.Laws.Accepted.{CommitCostAccepted, precommit-accepted, commit-cost-accepted}
 use Rattle.verdicts.specs.Verdicts.{verdict}
 use Rattle.verdicts.proofs.Laws.Verdicts.{error-of, accepted-none, refused-stores}
-use Rattle.verdicts.proofs.Laws.Ready.{own-slot, own-tam, owner-read, open-verdict}
+use Rattle.verdicts.proofs.Laws.Ready.{index-is, own-slot, own-tam, owner-read, open-verdict}
 use Rattle.commit_cost.proofs.Laws.CommitCost.{cost-verdict, cost-answered, few-touched}
 use borrow.Author.Needs.{needs}
 use Rattle.commit_cost.proofs.commit_cost.Statement.{statement}
@@ -24,7 +25,7 @@ shape-at c = shaped (c .args .memory) _ (c .good .0)
 
 -- where the causes of an open slot are tested
 abbrev entered : tie.After-open → tie.Start
-entered c = c .before .before .before .before .before .before .before .before .before .before .before .before .before
+entered c = c .before .before .before .before .before .before .before .before .before .before .before .before .before .before
 
 open-is : (c : tie.After-open) → c .open .result ≡ verdict (precommitError (entered c .args .memory) (entered c .args .slot))
 open-is c =
@@ -33,14 +34,23 @@ open-is c =
 
 -- where all are
 abbrev opened : tie.After-is-accepted → tie.After-open
-opened c = c .before .before .before .before .before .before .before
+opened c = c .before .before .before .before .before .before .before .before
+
+-- what the others have reserved, where there is such a slot
+others-are : (c : tie.After-is-accepted)
+    → precommitError (entered (opened c) .args .memory) (entered (opened c) .args .slot) ≡ none
+    → c .before .before .before .before .before .before .before .others .result ≡ othersReserved (entered (opened c) .args .memory .reserves) (entered (opened c) .args .slot)
+others-are c passed =
+    let a = entered (opened c) .args in
+    c .before .before .before .before .before .before .before .others .ensures
+    ∙ ap (othersReserved (a .memory .reserves)) (index-is (a .slot) (opened c .before .before .slot-index .ensures) (precommit-accepted _ _ passed .ready .below))
 
 verdict-is : (c : tie.After-is-accepted)
     → c .before .before .enough .result
     ≡ verdict (commitCostError (entered (opened c) .args .memory) (entered (opened c) .args .slot) (entered (opened c) .args .count))
 verdict-is c =
     let a = entered (opened c) .args in
-    cost-verdict (a .memory) (a .slot) (a .count) (c .before .before .enough .ensures) (open-is (opened c))
+    cost-verdict (a .memory) (a .slot) (a .count) _ (c .before .before .enough .ensures) (open-is (opened c)) (others-are c)
 
 -- where none holds
 told : (c : tie.Then1)
@@ -64,7 +74,7 @@ array-copy-out-owner c = search needs
 
 valid-requires : tie.Need-valid-requires
 valid-requires c κs =
-    let b = c .before .before .before .before .before .before .before .before .before in
+    let b = c .before .before .before .before .before .before .before .before .before .before in
     let shape = shape-at b in
     (shape .sam, (shape .com, owner-read (b .args .memory) _ shape (c .before .before .before .before .before .owner .ensures)))
 
@@ -80,9 +90,12 @@ array-copy-out-own c = search needs
 open-requires : tie.Need-open-requires
 open-requires c κs = search needs
 
+others-requires : tie.Need-others-requires
+others-requires c κs = c .before .before .slot-index .ensures .below
+
 enough-requires : tie.Need-enough-requires
 enough-requires c κs =
-    let opened = c .before .before .before .before in
+    let opened = c .before .before .before .before .before in
     let shape = shape-at (entered opened) in (
       shape .sam,
       (shape .com, λ e. valid-parts _ (precommit-accepted _ _ (accepted-none _ (open-is opened) refl e) .ready .is-valid) .few-blocks),
@@ -149,6 +162,7 @@ commit-cost-spec =
     mul-own
     array-copy-out-own
     open-requires
+    others-requires
     enough-requires
     stores-requires
     is-accepted-requires

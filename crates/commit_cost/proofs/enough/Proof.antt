@@ -1,5 +1,5 @@
--- What was refused stays so; else two causes, one after the other.
-use Prim.Native.Nat.{ℕ}
+-- What was refused stays so; else three causes, one after the other.
+use Prim.Native.Nat.{ℕ, _-_}
 use mathlib.Core.Path.{refl, sym, ap, _∙_}
 use lib.Dec.{ltb}
 use borrow.Author.Tests.{not-true, not-false}
@@ -25,16 +25,26 @@ unless-requires c κs = search needs
 unless-requires-2 : tie.Need-unless-requires-2
 unless-requires-2 c κs = search needs
 
+leaves-fewer-requires : tie.Need-leaves-fewer-requires
+leaves-fewer-requires c κs = search needs
+
+unless-requires-3 : tie.Need-unless-requires-3
+unless-requires-3 c κs = search needs
+
 returns-2 : tie.Need-returns-2
 returns-2 c =
-    let counted = c .before .unless in
-    let available = c .before .before .count-available in
-    let past = c .before .before .before in
+    let fewer = c .before .leaves-fewer in
+    let enough = c .before .before .unless2 in
+    let counted = c .before .before .before .unless in
+    let available = c .before .before .before .before .count-available in
+    let past = c .before .before .before .before .before in
     let a = past .before .before .args in
     then-accepted (a .earlier) _ (past .before .is-accepted .ensures) (not-false _ (past .if1 .left))
-    (then-tested _ _ _ (c .unless2 .ensures)
+    (then-tested _ _ _ (c .unless3 .ensures)
+    (then-tested _ _ _ (enough .ensures)
     (then-tested _ _ _ (counted .ensures) none-tested refl)
     (ap (λ (n : ℕ). ltb n (a .count)) (available .ensures)))
+    (fewer .ensures ∙ ap (λ (n : ℕ). ltb (n - a .count) (a .reserved)) (available .ensures)))
 
 pub enough-spec : {M : Type 1} → statement M
 enough-spec =
@@ -45,4 +55,6 @@ enough-spec =
     count-available-requires
     unless-requires
     unless-requires-2
+    leaves-fewer-requires
+    unless-requires-3
     returns-2)

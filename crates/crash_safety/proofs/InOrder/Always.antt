@@ -1,6 +1,7 @@
 -- Memory and disk stay in order: an open puts them in order, and every call but a crash leaves them so.
-use mathlib.Core.Path.{_≡_, refl, sym, ap, subst}
+use mathlib.Core.Path.{_≡_, refl, sym, ap, _∙_, subst}
 use mathlib.Core.Logic.{_⊎_, inl, inr, ⊎-elim}
+use mathlib.Core.Bool.{true, false≢true}
 use mathlib.Core.Option.{Option}
 use mathlib.Core.List.{List, [], _∷_}
 use Rattle.model_types.specs.declared.error.Error.{Error}
@@ -20,16 +21,18 @@ use Rattle.model.specs.Calls.Committing.{commitError, commitMemory}
 use Rattle.model.specs.Calls.Drop.{dropError, dropMemory}
 use Rattle.model.specs.Calls.Revoke.{revokeError, revokeMemory}
 use Rattle.model.specs.Calls.Storing.{storeError, storeMemory}
+use Rattle.model.specs.Calls.Reserve.{reserveError, reserveMemory}
 use Rattle.model.specs.Calls.Format.{formatDisk}
-use Rattle.model.specs.Outcome.{Call, outcome, openCall, startCall, allocateCall, allocateExtentCall, deallocateCall, precommitCall, commitCall, dropCall, revokeCall, storeCall, statusCall, commitCostCall, crashCall}
+use Rattle.model.specs.Outcome.{Call, outcome, openCall, startCall, allocateCall, allocateExtentCall, deallocateCall, precommitCall, commitCall, dropCall, revokeCall, storeCall, statusCall, commitCostCall, reserveCall, crashCall}
 use Rattle.crash_safety.specs.World.{World, begin, step, run}
 use Rattle.model.proofs.Laws.DiskParts.{opens-parts}
 use Rattle.model.proofs.Laws.Valid.{parts-valid}
 use Rattle.model.proofs.Laws.Opened.{opened-valid, opened-matches}
 use Rattle.crash_safety.specs.InOrder.{Consistent, InUse, InOrder, AlwaysInOrder, NoCrash, InUseFromOpen}
 use Rattle.crash_safety.proofs.Invariant.{Invariant}
+use Rattle.crash_safety.proofs.Crash.{zero-invalid}
 use Rattle.crash_safety.proofs.Keeps.{step-keeps, run-keeps, begins-formatted}
-use Rattle.crash_safety.proofs.InOrder.Touching.{start-consistent, precommit-consistent, drop-consistent, revoke-consistent, allocate-consistent, allocate-extent-consistent, deallocate-consistent}
+use Rattle.crash_safety.proofs.InOrder.Touching.{start-consistent, precommit-consistent, drop-consistent, revoke-consistent, allocate-consistent, allocate-extent-consistent, deallocate-consistent, reserve-consistent}
 use Rattle.crash_safety.proofs.InOrder.Commit.{commit-consistent}
 use Rattle.crash_safety.proofs.InOrder.Store.{store-consistent}
 
@@ -69,6 +72,8 @@ step-uses (revokeCall s) w i c = inr (revoke-consistent (w .memory) (w .disk) (i
 step-uses storeCall w i c = inr (store-uses w i c)
 step-uses statusCall w i c = inr c
 step-uses (commitCostCall s count) w i c = inr c
+step-uses (reserveCall s reservation) w i c =
+    inr (reserve-consistent (w .memory) (w .disk) (i .related (c .is-valid) .slots) c s reservation)
 step-uses crashCall w i c = inl refl
 
 pub run-uses : (calls : List Call) (w : World) → NoCrash calls → Invariant w → InUse w → InUse (run calls w)
@@ -79,7 +84,7 @@ run-uses (call ∷ calls) w n i c =
 
 -- a memory of zeros is refused by every call but open
 zeros-stay : (call : Call) (w : World) → Invariant w → w .memory ≡ zeroMemory → InOrder (step call w)
-unfolding step outcome startMemory startError allocateMemory allocateError allocateExtentMemory allocateExtentError deallocateMemory deallocateError precommitMemory precommitError commitMemory commitError dropMemory dropError revokeMemory revokeError storeMemory storeError memoryInvalid valid blocksInRange first firstOr unlessRefused
+unfolding step outcome startMemory startError allocateMemory allocateError allocateExtentMemory allocateExtentError deallocateMemory deallocateError precommitMemory precommitError commitMemory commitError dropMemory dropError revokeMemory revokeError storeMemory storeError reserveMemory reserveError memoryInvalid valid blocksInRange first firstOr unlessRefused
 zeros-stay openCall w i e = inr (open-uses w i)
 zeros-stay (startCall s) w i e = inl (ap (λ (m : Memory). startMemory m s) e)
 zeros-stay (allocateCall s count list) w i e = inl (ap (λ (m : Memory). allocateMemory m s count list) e)
@@ -92,7 +97,12 @@ zeros-stay (revokeCall s) w i e = inl (ap (λ (m : Memory). revokeMemory m s) e)
 zeros-stay storeCall w i e = inl (ap (λ (m : Memory). storeMemory m (w .disk)) e)
 zeros-stay statusCall w i e = inl e
 zeros-stay (commitCostCall s count) w i e = inl e
+zeros-stay (reserveCall s reservation) w i e = inl (ap (λ (m : Memory). reserveMemory m s reservation) e)
 zeros-stay crashCall w i e = inl refl
+
+-- a valid memory isn't that of zeros
+pub valid-uses : (w : World) → InOrder w → valid (w .memory) ≡ true → InUse w
+valid-uses w o is-valid = ⊎-elim (λ e. absurd (false≢true (sym zero-invalid ∙ sym (ap valid e) ∙ is-valid))) (λ u. u) o
 
 step-in-order : (call : Call) (w : World) → Invariant w → InOrder w → InOrder (step call w)
 unfolding step outcome

@@ -1,4 +1,4 @@
--- Start, allocate, of an extent or not, deallocate, precommit, drop and revoke leave a valid memory, and SAM as it was.
+-- Start, allocate, of an extent or not, deallocate, precommit, drop, revoke and reserve leave a valid memory, and SAM as it was.
 use Prim.Native.Nat.{ℕ, _<_}
 use native.Mathlib.Omega.{arith}
 use mathlib.Core.Path.{_≡_, refl, _∙_}
@@ -17,9 +17,11 @@ use Rattle.model.specs.Calls.Precommit.{precommitError, precommitting, precommi
 use Rattle.model.specs.Rollback.{rolledBack}
 use Rattle.model.specs.Calls.Drop.{dropError, dropMemory}
 use Rattle.model.specs.Calls.Revoke.{revokeError, revokeMemory}
-use Rattle.model.proofs.Laws.Accepted.{Ready, start-accepted, deallocate-accepted, precommit-accepted, RollbackAccepted, drop-rolls-back, revoke-rolls-back}
+use Rattle.model.specs.Reserves.{reserving}
+use Rattle.model.specs.Calls.Reserve.{reserveError, reserveMemory}
+use Rattle.model.proofs.Laws.Accepted.{Ready, start-accepted, deallocate-accepted, precommit-accepted, RollbackAccepted, drop-rolls-back, revoke-rolls-back, reserve-accepted}
 use Rattle.model.proofs.Laws.Valid.{ValidParts, valid-parts}
-use Rattle.model.proofs.Laws.Untouched.{started-valid, precommitted-valid}
+use Rattle.model.proofs.Laws.Untouched.{started-valid, precommitted-valid, reserving-valid}
 use Rattle.model.proofs.Laws.Taking.{grant-valid, freeing-valid}
 use Rattle.model.proofs.Laws.Granting.{Grants, allocate-grants, allocate-extent-grants}
 use Rattle.model.proofs.Laws.Rollback.{rolled-back-valid}
@@ -67,7 +69,7 @@ module _ (memory : Memory) (disk : List ℕ) (eight : length (memory .slots) ≡
       (λ e.
       let a = accepted e in
       still s (rolledBack memory s) (a .ready) refl refl refl
-      (rolled-back-valid memory parts s (a .ready .nothing-pending) (there s (a .ready)) (a .active)))
+      (rolled-back-valid memory parts s (a .ready .nothing-pending) (there s (a .ready)) (a .ready .below) (a .active)))
 
   pub drop-consistent : (s : ℕ) → Consistent (dropMemory memory s) disk
   unfolding dropMemory
@@ -86,7 +88,8 @@ module _ (memory : Memory) (disk : List ℕ) (eight : length (memory .slots) ≡
       (λ e.
       let g = grants e in
       still s (taking memory s blocks) (g .ready) refl refl refl
-      (grant-valid memory s blocks (g .available) parts (g .ready .nothing-pending) (there s (g .ready)) (g .active)))
+      (grant-valid memory s blocks (g .available) parts (g .ready .nothing-pending) (there s (g .ready)) (g .active) (g .once)
+      (rw (g .size) (g .spares))))
 
   pub allocate-consistent : (s count : ℕ) (list : List ℕ) → Consistent (allocateMemory memory s count list) disk
   unfolding allocateMemory
@@ -107,3 +110,12 @@ module _ (memory : Memory) (disk : List ℕ) (eight : length (memory .slots) ≡
       let a = deallocate-accepted memory s block e in
       still s (freeing memory s block) (a .ready) refl refl refl
       (freeing-valid memory s block parts (a .ready .nothing-pending) (there s (a .ready)) (a .active) (a .allocated) (a .unfreed)))
+
+  pub reserve-consistent : (s reservation : ℕ) → Consistent (reserveMemory memory s reservation) disk
+  unfolding reserveMemory reserving
+  reserve-consistent s reservation =
+      unless-refused memory (reserving memory s reservation) disk (reserveError memory s reservation) c
+      (λ e.
+      let a = reserve-accepted memory s reservation e in
+      still s (reserving memory s reservation) (a .ready) refl refl refl
+      (reserving-valid memory s reservation parts (a .ready .nothing-pending) (a .fits)))

@@ -31,7 +31,7 @@ shape-at c = shaped (c .args .memory) _ (c .good .0)
 
 -- where the causes of an open slot are tested
 abbrev entered : tie.After-open → tie.Start
-entered c = c .before .before .before .before .before .before .before .before .before .before .before .before .before
+entered c = c .before .before .before .before .before .before .before .before .before .before .before .before .before .before
 
 open-is : (c : tie.After-open) → c .open .result ≡ verdict (precommitError (entered c .args .memory) (entered c .args .slot))
 open-is c =
@@ -69,7 +69,7 @@ array-copy-out-owner c = search needs
 
 valid-requires : tie.Need-valid-requires
 valid-requires c κs =
-    let b = c .before .before .before .before .before .before .before .before .before in
+    let b = c .before .before .before .before .before .before .before .before .before .before in
     let shape = shape-at b in
     (shape .sam, (shape .com, owner-read (b .args .memory) _ shape (c .before .before .before .before .before .owner .ensures)))
 

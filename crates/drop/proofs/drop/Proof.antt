@@ -1,21 +1,20 @@
 -- The slot's causes decide; accepted, the memory is the definition's.
 use lib.ListN.{getD}
-use mathlib.Core.Path.{_≡_, ap, ap₂, _∙_}
+use mathlib.Core.Path.{_≡_, ap, _∙_}
 use mathlib.Core.Logic.{⊎-elim}
-use mathlib.Core.List.{List}
-use Rattle.bitmap.specs.declared.Bitmap.{Bitmap}
 use Rattle.bitmap.specs.Bits.{IsBitmap}
 use Rattle.model_types.specs.declared.memory.Slot.{Slot}
 use Rattle.model_types.specs.Answers.{done}
-use Rattle.model_types.specs.Memory.{withCom, withSlots}
 use Rattle.model.specs.Rollback.{rolledBack}
 use Rattle.model.specs.Calls.Drop.{dropError, dropAnswer, dropMemory}
 use Rattle.model_types.proofs.Laws.Shape.{Shaped, shaped}
-use Rattle.model.proofs.Laws.Accepted.{drop-accepted}
+use Rattle.model.proofs.Laws.Accepted.{Ready, drop-accepted}
+use Rattle.model.proofs.Laws.Valid.{valid-parts}
+use Rattle.model.proofs.Laws.Fit.{few-reserved, few-drawn}
 use Rattle.verdicts.specs.Verdicts.{verdict}
 use Rattle.verdicts.proofs.Laws.Verdicts.{error-of, accepted-none, accepted-leaves, refused-leaves}
 use Rattle.verdicts.proofs.Laws.Ready.{own-tam, owner-read, drop-verdict}
-use Rattle.rollback.proofs.Laws.Rollback.{rolled-memory}
+use Rattle.rollback.proofs.Laws.Rollback.{rolled-memory, kept-memory}
 use borrow.Author.Needs.{needs}
 use Rattle.drop.proofs.drop.Statement.{statement}
 use Rattle.drop.proofs.drop.Tie as tie
@@ -26,15 +25,19 @@ shape-at : (c : tie.Start) → Shaped (c .args .memory)
 shape-at c = shaped (c .args .memory) _ (c .good .0)
 
 -- where the slot has been tested
-abbrev entered : tie.Joined1 → tie.Start
+abbrev entered : tie.After-is-accepted → tie.Start
 entered c = c .before .before .before .before .before .before .before .before .before .before .before .before .before .before .before .before
 
-verdict-is : (c : tie.Joined1) → c .before .before .before .open .result ≡ verdict (dropError (entered c .args .memory) (entered c .args .slot))
+verdict-is : (c : tie.After-is-accepted) → c .before .before .open .result ≡ verdict (dropError (entered c .args .memory) (entered c .args .slot))
 verdict-is c =
-    let judged = c .before .before .before in
+    let judged = c .before .before in
     let looked = judged .before .before .slot-index in
     let tested = judged .before .before .before .valid in
     drop-verdict (entered c .args .memory) _ (entered c .args .slot) (shape-at (entered c)) (looked .ensures) (tested .ensures) (judged .open .ensures)
+
+-- where none holds
+told : (c : tie.Then1) → Ready (entered (c .before) .args .memory) (entered (c .before) .args .slot)
+told c = drop-accepted _ _ (accepted-none _ (verdict-is (c .before)) (c .before .is-accepted .ensures) (c .if1 .taken)) .ready
 
 -- ---- the needs
 
@@ -49,7 +52,7 @@ array-copy-out-owner c = search needs
 
 valid-requires : tie.Need-valid-requires
 valid-requires c κs =
-    let b = c .before .before .before .before .before .before .before .before .before in
+    let b = c .before .before .before .before .before .before .before .before .before .before in
     let shape = shape-at b in
     (shape .sam, (shape .com, owner-read (b .args .memory) _ shape (c .before .before .before .before .before .owner .ensures)))
 
@@ -75,7 +78,7 @@ is-accepted-requires c κs = search needs
 roll-back-requires : tie.Need-roll-back-requires
 roll-back-requires c κs =
     let tested = c .before .before .before .before .before .before .before .before .before .before in
-    let b = tested .before .before .before .before .before .before .before .before .before .before .before in
+    let b = tested .before .before .before .before .before .before .before .before .before .before .before .before in
     let shape = shape-at b in
     let is-bitmap : (d : Slot) → IsBitmap (getD (b .args .memory .slots) (tested .slot-index .result) d .tam .words) = λ d. own-tam (b .args .memory) d shape (tested .slot-index .ensures) in
     (shape .com, (search (shape .sam, is-bitmap), search (shape .sam, is-bitmap)))
@@ -86,22 +89,31 @@ mul-slots c = search needs
 array-set-from-slots : tie.Need-array-set-from-slots
 array-set-from-slots c = search needs
 
+put-back-requires : tie.Need-put-back-requires
+put-back-requires c κs =
+    let then = c .before .before .before .before .before .before in
+    let memory = entered (then .before) .args .memory in
+    let parts = valid-parts memory (told then .is-valid) in
+    let at = c .before .before .before .before .before .before .before .before .before .before .before .slot-index in
+    (at .ensures .below, record { reservation = few-reserved memory (at .result) parts; drawn = few-drawn memory (at .result) parts (at .ensures .below) })
+
 returns : tie.Need-returns
 unfolding dropAnswer dropMemory
 returns c =
-    let a = entered c .args in
+    let tested = c .before in
+    let a = entered tested .args in
     let error = dropError (a .memory) (a .slot) in
-    let test = c .before .is-accepted .ensures in
-    let looked = c .before .before .before .before .before .slot-index .ensures in (
-      c .before .before .answer .ensures ∙ ap done (error-of error (verdict-is c)),
+    let test = tested .is-accepted .ensures in
+    let looked = tested .before .before .before .before .slot-index .ensures in (
+      tested .before .answer .ensures ∙ ap done (error-of error (verdict-is tested)),
       ⊎-elim
-          (λ (accepted, _, _, _, _, _, rolled, com-is, slots-are).
-          let told = drop-accepted (a .memory) (a .slot) (accepted-none error (verdict-is c) test (accepted .taken)) .ready in
-          rolled-memory (a .memory) _ (a .slot) (shape-at (entered c)) told looked (rolled .ensures .0) (rolled .ensures .1) com-is slots-are
-          ∙ accepted-leaves error (rolledBack (a .memory) (a .slot)) (a .memory) (verdict-is c) test (accepted .taken))
-          (λ (refused, kept, same).
-          ap₂ (λ («com» : Bitmap) (slots : List Slot). withSlots (withCom (a .memory) «com») slots) kept same
-          ∙ refused-leaves error (rolledBack (a .memory) (a .slot)) (a .memory) (verdict-is c) test (refused .left))
+          (λ (accepted, _, _, _, _, _, rolled, drew, com-is, slots-are, reserves-are).
+                    rolled-memory (a .memory) _ (a .slot) (shape-at (entered tested)) (told (record { before = tested; if1 = accepted })) looked
+          (rolled .ensures .0) (rolled .ensures .1) com-is slots-are (reserves-are ∙ drew .ensures)
+          ∙ accepted-leaves error (rolledBack (a .memory) (a .slot)) (a .memory) (verdict-is tested) test (accepted .taken))
+          (λ (refused, com-is, slots-are, reserves-are).
+          kept-memory (a .memory) com-is slots-are reserves-are
+          ∙ refused-leaves error (rolledBack (a .memory) (a .slot)) (a .memory) (verdict-is tested) test (refused .left))
           (c .if1 .came),
     )
 
@@ -122,4 +134,5 @@ drop-spec =
     roll-back-requires
     mul-slots
     array-set-from-slots
+    put-back-requires
     returns)

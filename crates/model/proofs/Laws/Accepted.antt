@@ -1,6 +1,6 @@
 -- What the acceptance of a call tells, by name: for each call the causes of its list that don't hold. Below `cN` is what is
 -- left of the list from cause N on.
-use Prim.Native.Nat.{ℕ, _≤_, _<_}
+use Prim.Native.Nat.{ℕ, _-_, _≤_, _<_}
 use native.Mathlib.Omega.{arith}
 use mathlib.Core.Path.{_≡_, refl, ap, _∙_}
 use mathlib.Core.Bool.{Bool, true, false, not, _&&_, false≢true}
@@ -10,13 +10,14 @@ use lib.ListN.{length}
 use lib.Dec.{leb, eqb}
 use borrow.Author.Tests.{leb-true, leb-false, ltb-true, ltb-false, lt-ltb, le-ltb, eqb-true, eqb-false, eq-eqb, not-false}
 use Rattle.bitmap.specs.Sizes.{slotCount, maxCount, blocksInRange, countInRange, slotInRange}
-use Rattle.model.specs.Types.{Error, Pending, Nothing, Commit, Recovery, Memory, MemoryInvalid, WorkPending, SlotRange, SlotIdle, SlotPrecommitted, SlotNotPrecommitted, CountRange, TooFewAvailable}
+use Rattle.model.specs.Types.{Error, Pending, Nothing, Commit, Recovery, Memory, MemoryInvalid, WorkPending, SlotRange, SlotIdle, SlotPrecommitted, SlotNotPrecommitted, CountRange, TooFewAvailable, ReservedForOthers}
 use Rattle.model.specs.Sizes.{diskWords}
 use Rattle.model_types.specs.Memory.{slotAt, isActive, isPrecommitted, samBit, comBit}
 use Rattle.model.specs.Valid.{valid}
 use Rattle.model.specs.Disk.{diskMatches}
 use Rattle.model.specs.First.{Cause, first, firstOr, _⇒_}
-use Rattle.model.specs.Causes.{memoryInvalid, diskLengthWrong, diskMismatched, blocksOutOfRange, nothingPending, workPending, slotOutOfRange, slotActive, slotInactive, slotPrecommitted, slotNotPrecommitted, countOutOfRange, countTooLarge, listShort, available, tooFewAvailable, blockOutOfRange, blockFree, blockFreeing, extentStarts, noExtent}
+use Rattle.model.specs.Available.{available}
+use Rattle.model.specs.Causes.{memoryInvalid, diskLengthWrong, diskMismatched, blocksOutOfRange, nothingPending, workPending, slotOutOfRange, slotActive, slotInactive, slotPrecommitted, slotNotPrecommitted, countOutOfRange, countTooLarge, listShort, tooFewAvailable, blockOutOfRange, blockFree, blockFreeing, extentStarts, noExtent, overReserved, reservedForOthers}
 use Rattle.model_types.specs.Pending.{isNothing}
 use Rattle.model.specs.Calls.Format.{formatError}
 use Rattle.model.specs.Calls.Start.{startError}
@@ -29,6 +30,9 @@ use Rattle.model.specs.Calls.Drop.{dropError}
 use Rattle.model.specs.Calls.Revoke.{revokeError}
 use Rattle.model.specs.Calls.Storing.{storeError}
 use Rattle.model.specs.Calls.CommitCost.{commitCostError}
+use Rattle.model.specs.Calls.Reserve.{reserveError}
+use Rattle.model.specs.Reserves.{totalReserved, othersReserved, reserving}
+use Rattle.model.proofs.Laws.Reserves.{Spares}
 use Rattle.model.proofs.Laws.First.{first-none, none-first, none-append}
 use Rattle.model.proofs.Laws.Writes.{and-first, and-second}
 
@@ -78,7 +82,7 @@ unfolding listShort
 list-as-long list count e = ltb-false (length list) count e
 
 -- 17
-enough-available : (memory : Memory) (count : ℕ) → tooFewAvailable memory count ≡ false → count ≤ length (available memory)
+pub enough-available : (memory : Memory) (count : ℕ) → tooFewAvailable memory count ≡ false → count ≤ length (available memory)
 unfolding tooFewAvailable
 enough-available memory count e = ltb-false (length (available memory)) count e
 
@@ -98,11 +102,26 @@ both-set true «com» s e = not-false «com» e
 both-set false «com» s e = absurd (false≢true s)
 
 -- 22
-extent-found : (memory : Memory) (count : ℕ) → noExtent memory count ≡ false → 1 ≤ length (extentStarts memory count)
+pub extent-found : (memory : Memory) (count : ℕ) → noExtent memory count ≡ false → 1 ≤ length (extentStarts memory count)
 unfolding noExtent
 extent-found memory count e = let some = eqb-false (length (extentStarts memory count)) 0 e in omega (arith, some)
 
--- ---- the eight transaction calls, and commit cost
+-- 23
+fits-reserved : (memory : Memory) (s reservation : ℕ) → overReserved memory s reservation ≡ false
+    → totalReserved (reserving memory s reservation .reserves) ≤ length (available memory)
+unfolding overReserved
+fits-reserved memory s reservation e = ltb-false (length (available memory)) (totalReserved (reserving memory s reservation .reserves)) e
+
+-- 24, and the other way round
+others-spared : (memory : Memory) (s count : ℕ) → reservedForOthers memory s count ≡ false → Spares memory s count
+unfolding reservedForOthers
+others-spared memory s count e = ltb-false (length (available memory) - count) (othersReserved (memory .reserves) s) e
+
+pub spared-others : (memory : Memory) (s count : ℕ) → Spares memory s count → reservedForOthers memory s count ≡ false
+unfolding reservedForOthers
+spared-others memory s count h = le-ltb (length (available memory) - count) (othersReserved (memory .reserves) s) h
+
+-- ---- the eight transaction calls, commit cost and reserve
 
 -- 1, 8 and 10: the memory is valid, nothing is pending, and the slot is there
 pub record Ready (memory : Memory) (s : ℕ) : Type 0 where
@@ -128,6 +147,21 @@ module _ (memory : Memory) (s : ℕ) where
       let c11 = c10 .1 in
       record { ready = ready-of memory s (c1 .0) (c8 .0) (c10 .0); idle = c11 .0 }
 
+  pub record ReserveAccepted (reservation : ℕ) : Type 0 where
+    pub ready : Ready memory s
+    pub idle : isActive (slotAt memory s .state) ≡ false
+    pub fits : totalReserved (reserving memory s reservation .reserves) ≤ length (available memory)
+
+  pub reserve-accepted : (reservation : ℕ) → reserveError memory s reservation ≡ none → ReserveAccepted reservation
+  unfolding reserveError slotActive
+  reserve-accepted reservation e =
+      let c1 = first-none _ e in
+      let c8 = c1 .1 in
+      let c10 = c8 .1 in
+      let c11 = c10 .1 in
+      let c23 = c11 .1 in
+      record { ready = ready-of memory s (c1 .0) (c8 .0) (c10 .0); idle = c11 .0; fits = fits-reserved memory s reservation (c23 .0) }
+
   pub record AllocateAccepted (count : ℕ) (list : List ℕ) : Type 0 where
     pub ready : Ready memory s
     pub active : isActive (slotAt memory s .state) ≡ true
@@ -136,6 +170,7 @@ module _ (memory : Memory) (s : ℕ) where
     pub few : count ≤ maxCount
     pub room : count ≤ length list
     pub enough : count ≤ length (available memory)
+    pub spares : Spares memory s count
 
   pub allocate-accepted : (count : ℕ) (list : List ℕ) → allocateError memory s count list ≡ none → AllocateAccepted count list
   unfolding allocateError slotPrecommitted
@@ -148,6 +183,7 @@ module _ (memory : Memory) (s : ℕ) where
       let c15 = c13 .1 in
       let c16 = c15 .1 in
       let c17 = c16 .1 in
+      let c24 = c17 .1 in
       record {
         ready = ready-of memory s (c1 .0) (c8 .0) (c10 .0);
         active = slot-active memory s (c12 .0);
@@ -156,6 +192,7 @@ module _ (memory : Memory) (s : ℕ) where
         few = count-few count (c15 .0);
         room = list-as-long list count (c16 .0);
         enough = enough-available memory count (c17 .0);
+        spares = others-spared memory s count (c24 .0);
       }
 
   pub record AllocateExtentAccepted (count near : ℕ) (list : List ℕ) : Type 0 where
@@ -167,6 +204,7 @@ module _ (memory : Memory) (s : ℕ) where
     pub room : count ≤ length list
     pub near-below : near < memory .blocks
     pub found : 1 ≤ length (extentStarts memory count)
+    pub spares : Spares memory s count
 
   pub allocate-extent-accepted : (count near : ℕ) (list : List ℕ) → allocateExtentError memory s count near list ≡ none → AllocateExtentAccepted count near list
   unfolding allocateExtentError slotPrecommitted
@@ -180,6 +218,7 @@ module _ (memory : Memory) (s : ℕ) where
       let c16 = c15 .1 in
       let c18 = c16 .1 in
       let c22 = c18 .1 in
+      let c24 = c22 .1 in
       record {
         ready = ready-of memory s (c1 .0) (c8 .0) (c10 .0);
         active = slot-active memory s (c12 .0);
@@ -189,6 +228,7 @@ module _ (memory : Memory) (s : ℕ) where
         room = list-as-long list count (c16 .0);
         near-below = block-below memory near (c18 .0);
         found = extent-found memory count (c22 .0);
+        spares = others-spared memory s count (c24 .0);
       }
 
   pub record DeallocateAccepted (block : ℕ) : Type 0 where
@@ -283,6 +323,7 @@ module _ (memory : Memory) (s : ℕ) where
     pub not-precommitted : isPrecommitted (slotAt memory s .state) ≡ false
     pub few : count ≤ maxCount
     pub enough : count ≤ length (available memory)
+    pub spares : Spares memory s count
 
   pub commit-cost-accepted : (count : ℕ) → commitCostError memory s count ≡ none → CommitCostAccepted count
   unfolding commitCostError slotPrecommitted countTooLarge
@@ -294,21 +335,25 @@ module _ (memory : Memory) (s : ℕ) where
       let c13 = c12 .1 in
       let c15 = c13 .1 in
       let c17 = c15 .1 in
+      let c24 = c17 .1 in
       record {
         ready = ready-of memory s (c1 .0) (c8 .0) (c10 .0);
         active = slot-active memory s (c12 .0);
         not-precommitted = c13 .0;
         few = ltb-false maxCount count (c15 .0);
         enough = enough-available memory count (c17 .0);
+        spares = others-spared memory s count (c24 .0);
       }
 
   -- and the other way round: an open slot, as precommit asks for it, and the count
   pub accepted-commit-cost : (count : ℕ) → CommitCostAccepted count → commitCostError memory s count ≡ none
   unfolding precommitError commitCostError countTooLarge tooFewAvailable
   accepted-commit-cost count a =
-      none-append _ (countTooLarge count ⇒ CountRange ∷ tooFewAvailable memory count ⇒ TooFewAvailable ∷ [])
+      none-append _
+      (countTooLarge count ⇒ CountRange ∷ tooFewAvailable memory count ⇒ TooFewAvailable ∷ reservedForOthers memory s count ⇒ ReservedForOthers ∷ [])
       (accepted-precommit (record { ready = a .ready; active = a .active; not-precommitted = a .not-precommitted }))
-      ∙ none-first _ (le-ltb maxCount count (a .few), (le-ltb (length (available memory)) count (a .enough), tt))
+      ∙ none-first _
+      (le-ltb maxCount count (a .few), (le-ltb (length (available memory)) count (a .enough), (spared-others memory s count (a .spares), tt)))
 
   pub record CommitAccepted : Type 0 where
     pub ready : Ready memory s

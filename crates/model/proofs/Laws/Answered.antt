@@ -17,6 +17,11 @@ unfolding due
 due-answered none n cost e = (refl, cc)
 due-answered (some error) n cost e = (cc, cc)
 
+pub due-refused : (error : Option Error) (n : ℕ) (by : Error) → due error n ≡ StoresAnswer.Refused by → error ≡ some by
+unfolding due
+due-refused none n by e = cc
+due-refused (some error) n by e = cc
+
 -- the first block granted
 pub grant-answered : (error : Option Error) (n block : ℕ) → granted error n ≡ GrantAnswer.First block → (error ≡ none) × (n ≡ block)
 unfolding granted

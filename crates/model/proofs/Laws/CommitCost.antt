@@ -31,7 +31,7 @@ use Rattle.model.proofs.Laws.Accepted.{PrecommitAccepted, CommitAccepte
 use Rattle.model.proofs.Laws.FourCounts.{available-can-be-had}
 use Rattle.model.proofs.Laws.Pending.{commit-due}
 use Rattle.model.proofs.Laws.Untouched.{precommitted-valid}
-use Rattle.model.proofs.Laws.Taking.{grant-valid, taking-state, met-available, met-length}
+use Rattle.model.proofs.Laws.Taking.{grant-valid, taking-state, met-available, met-distinct, met-length}
 use Rattle.model.proofs.Laws.TouchedBlocks.{changed-touched, changed-words}
 use Rattle.model.proofs.Laws.TouchedBy.{touchedBy, active-touched, taking-touches, precommitting-touches}
 
@@ -135,7 +135,7 @@ module _ (memory : Memory) (s count : ℕ) (is : IsBitmap (memory .sam .words)) 
     -- the allocate is granted
     allocates : allocateAnswer memory s count list ≡ GrantAnswer.First (getD (firstMet memory count) 0 0)
     unfolding counts
-    allocates = available-can-be-had memory (a .ready .is-valid) .granted s count list eligible (a .enough)
+    allocates = available-can-be-had memory (a .ready .is-valid) .granted s count list eligible (omega (arith, a .enough, a .spares))
 
     abbrev taken : Memory
     taken = taking memory s (firstMet memory count)
@@ -148,7 +148,11 @@ module _ (memory : Memory) (s count : ℕ) (is : IsBitmap (memory .sam .words)) 
     unfolding taking
     still-open =
         let there = active-there memory s (a .active) in
-        let valid-after = grant-valid memory s (firstMet memory count) (met-available memory count (parts .cursor-below)) parts (a .ready .nothing-pending) there (a .active) in
+        let size = met-length memory count (parts .cursor-below) (a .enough) in
+        let valid-after =
+        grant-valid memory s (firstMet memory count) (met-available memory count (parts .cursor-below)) parts (a .ready .nothing-pending) there (a .active)
+        (met-distinct memory count)
+        (omega (arith, size, a .spares)) in
         record {
           ready = record { is-valid = parts-valid taken valid-after; nothing-pending = a .ready .nothing-pending; below = a .ready .below };
           active = ap isActive own-after ∙ a .active;
@@ -194,7 +198,8 @@ commit-cost-answered memory is-valid s count nothing below is-open few enough =
       active = ap isActive is-open;
       not-precommitted = ap isPrecommitted is-open;
       few = few;
-      enough = enough;
+      enough = omega (arith, enough);
+      spares = omega (arith, enough);
     }))
 
 pub commit-cost-at-most : CommitCostAtMost

@@ -1,18 +1,25 @@
 -- The memory after a commit: its slots one by one, and that it is valid.
-use Prim.Native.Nat.{ℕ, _+_, _<_}
+use Prim.Native.Nat.{ℕ, _+_, _≤_, _<_}
+use native.Mathlib.Decide.{ℕ-discrete}
 use native.Mathlib.Omega.{arith}
 use mathlib.Core.Path.{_≡_, refl, sym, ap, ap₂, _∙_, subst}
-use mathlib.Core.Bool.{Bool, true, false, not, cond, xor, _&&_, _||_}
+use mathlib.Core.Bool.{Bool, true, false, not, cond, xor, _&&_, _||_, false≢true}
 use mathlib.Core.List.{List, map}
 use lib.ListN.{length, getD, set, length-set, length-map, List·getD-map}
 use lib.Seq.{getD-set-same, getD-set-other}
+use Rattle.bitmap.specs.Sizes.{slotCount}
 use Rattle.bitmap.specs.Bits.{bit, noBitsFrom, IsBitmap}
+use Rattle.bitmap.specs.Blocks.{isAvailable}
 use Rattle.bitmap.proofs.Laws.Bits.{bitmapOf-is, noBits-bit, noBits-bitmapOf}
-use Rattle.model.specs.Types.{Bitmap, Slot, Memory}
-use Rattle.model_types.specs.Memory.{slotAt, idleSlot, isActive, samBit, comBit, tamBit, withTam, volumeBitmap}
+use Rattle.bitmap.proofs.Laws.Blocks.{available-free, available-unused}
+use Rattle.model.specs.Types.{Bitmap, Slot, Reserve, Memory}
+use Rattle.model_types.specs.Memory.{slotAt, reserveAt, noReserve, idleSlot, isActive, samBit, comBit, tamBit, withTam, volumeBitmap}
 use Rattle.model.specs.Commit.{committedSam, refreshed, committed}
-use Rattle.model.specs.Valid.{touched, slotValid, pendingValid}
-use Rattle.model.proofs.Laws.Valid.{ValidParts, touchesBlock, idle-valid}
+use Rattle.model.specs.Reserves.{usedUp}
+use Rattle.model.specs.Valid.{touched, took, takenBlocks, slotValid, pendingValid}
+use Rattle.model.proofs.Laws.Valid.{ReservesFit, ValidParts, touchesBlock, idle-valid}
+use Rattle.model.proofs.Laws.Reserves.{total-split, total-set-le, drawn-set-le}
+use Rattle.model.proofs.Laws.Fit.{availableIn, took-is, as-available, as-taken, idle-drawn}
 use Rattle.model.proofs.Laws.Commit.{same-or-not, both-differ, touched-differs, committed-bits, refreshed-bits, others-kept}
 use Rattle.model.proofs.Laws.Touches.{one, xor-self, differs, allSlots-set, allSlots-map, active-valid, balanced-agree}
 
@@ -146,6 +153,65 @@ module _ (memory : Memory) (s : ℕ) (parts : ValidParts memory) (h : s < length
             ap (λ (t : Bool). one (xor t (comBit memory b))) (new ∙ same-or-not tam sam e),
           )
 
+  -- what was available still is: where COM is SAM the slot has touched nothing
+  still-available : (b : ℕ) → b < memory .blocks → availableIn memory b ≡ true → availableIn (committed memory s) b ≡ true
+  unfolding committed isAvailable touched xor
+  still-available b inside e =
+      let free = available-free (memory .sam .words) (memory .com .words) b e in
+      let unused = available-unused (memory .sam .words) (memory .com .words) b e in
+      ap₂ (λ (x y : Bool). not x && not y) (committed-bits memory parts s active b ∙ go (xor (tamBit (slotAt memory s) b) (samBit memory b)) refl free unused) unused
+    where
+      go : (t : Bool) → xor (tamBit (slotAt memory s) b) (samBit memory b) ≡ t → samBit memory b ≡ false → comBit memory b ≡ false → tamBit (slotAt memory s) b ≡ false
+      go true q free unused = absurd (false≢true (sym (ap₂ xor free unused) ∙ touched-differs memory parts s b inside (ap₂ _&&_ active q)))
+      go false q free unused = same-or-not (tamBit (slotAt memory s) b) (samBit memory b) q ∙ free
+
+  -- another active slot took what it had
+  other-taken : (t : ℕ) → (t ≡ s → ⊥) → isActive (slotAt memory t .state) ≡ true → length (takenBlocks (committed memory s) t) ≡ length (takenBlocks memory t)
+  unfolding committed
+  other-taken t n other =
+      as-taken memory (committed memory s) refl t
+      (λ b inside.
+      took-is (committed memory s) (slotAt (committed memory s) t) b
+      ∙ others-kept memory parts s t b n active other (bit (committedSam memory s .words) b) (committed-bits memory parts s active b)
+      (tamBit (slotAt (committed memory s) t) b)
+      (ap (λ (slot : Slot). tamBit slot b) (refreshed-at memory (committedSam memory s) s t n)
+      ∙ refreshed-bits memory parts (committedSam memory s) t other
+      (λ x outside. noBits-bit (memory .blocks) (committedSam memory s .words) x (committed-below memory s) outside)
+      b) .0
+      ∙ sym (took-is memory (slotAt memory t) b))
+
+  committed-fits : ReservesFit (committed memory s)
+  unfolding committed usedUp
+  committed-fits =
+      record {
+        total =
+            omega (
+              arith,
+              total-set-le (memory .reserves) s reserve,
+              total-split (memory .reserves) s,
+              parts .reserves-fit .total,
+              as-available memory (committed memory s) refl still-available,
+            );
+        drawn = λ t below. go t below (ℕ-discrete t s);
+      }
+    where
+      reserve : Reserve
+      reserve = usedUp (reserveAt memory s)
+
+      kept : (t : ℕ) → (t ≡ s → ⊥) → getD (set (memory .reserves) s reserve) t noReserve .drawn ≡ reserveAt memory t .drawn
+      kept t n = ap (λ (x : Reserve). x .drawn) (getD-set-other (memory .reserves) s t reserve noReserve n)
+
+      by-state : (t : ℕ) → t < slotCount → (t ≡ s → ⊥) → (u : Bool) → isActive (slotAt memory t .state) ≡ u
+          → getD (set (memory .reserves) s reserve) t noReserve .drawn ≤ length (takenBlocks (committed memory s) t)
+      by-state t below n true e = omega (arith, kept t n, parts .reserves-fit .drawn t below, other-taken t n e)
+      by-state t below n false e = omega (arith, kept t n, idle-drawn memory t parts e below)
+
+      go : (t : ℕ) → t < slotCount → Dec (t ≡ s) → getD (set (memory .reserves) s reserve) t noReserve .drawn ≤ length (takenBlocks (committed memory s) t)
+      go t below (yes e) =
+          subst (λ (x : ℕ). getD (set (memory .reserves) s reserve) x noReserve .drawn ≤ length (takenBlocks (committed memory s) x)) (sym e)
+          (omega (arith, drawn-set-le (memory .reserves) s reserve))
+      go t below (no n) = by-state t below n (isActive (slotAt memory t .state)) refl
+
   pub committed-valid : ValidParts (committed memory s)
   unfolding committed pendingValid
   committed-valid =
@@ -170,6 +236,7 @@ module _ (memory : Memory) (s : ℕ) (parts : ValidParts memory) (h : s < length
             ≡ one (touchesBlock memory (slotAt memory s) b) + one (differs (committed memory s) b))
             (sym own-idle)
             (omega (arith, own-touch b inside)));
+        reserves-fit = committed-fits;
         pending-valid = refl;
       }
     where

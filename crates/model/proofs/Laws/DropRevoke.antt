@@ -12,6 +12,7 @@ use Rattle.model_types.specs.Memory.{slotAt, idleSlot, isPrecommitted, withCom}
 use Rattle.model_types.specs.Pending.{isNothing}
 use Rattle.model.specs.Causes.{memoryInvalid, nothingPending, workPending, slotOutOfRange, slotActive, slotInactive, slotPrecommitted, slotNotPrecommitted}
 use Rattle.model.specs.Valid.{valid}
+use Rattle.model.specs.Reserves.{putBack}
 use Rattle.model.specs.Rollback.{rolledBackCom, rolledBack}
 use Rattle.model.specs.Calls.Drop.{dropError, dropAnswer, dropMemory}
 use Rattle.model.specs.Calls.Revoke.{revokeError, revokeAnswer, revokeMemory}
@@ -24,7 +25,7 @@ use Rattle.model.proofs.Laws.Rollback.{rolled-back-bits}
 
 -- the one piece of work
 rolls-back : (memory : Memory) (s : ℕ) → RollbackAccepted memory s → RollsBack memory s (rolledBack memory s)
-unfolding rolledBack
+unfolding rolledBack putBack
 rolls-back memory s a =
     let changed = withCom memory (rolledBackCom memory s) in
     record {
@@ -34,6 +35,7 @@ rolls-back memory s a =
       same-cursor = refl;
       same-sam = refl;
       other-slots = slot-other changed s idleSlot;
+      reserves = refl;
       same-pending = refl;
     }
 

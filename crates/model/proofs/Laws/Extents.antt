@@ -12,7 +12,8 @@ use lib.Seq.{getD-append-add, getD-drop}
 use borrow.Author.Tests.{lt-leb, eqb-true, ne-eqb}
 use Rattle.bitmap.specs.Blocks.{member, isAvailable}
 use Rattle.bitmap.specs.Extents.{isStart, nearest}
-use Rattle.bitmap.proofs.Laws.Extents.{start-within, start-holds, start-of, starts-are, starts-all, nearest-member, nearest-least, nearest-lower, distance-same, distance-zero, member-some, member-adjoining, length-adjoining, getD-adjoining}
+use Rattle.bitmap.proofs.Laws.Extents.{start-within, start-holds, start-of, starts-are, starts-all, nearest-member, nearest-least, nearest-lower, distance-same, distance-zero, member-some, member-adjoining, length-adjoining, distinct-adjoining, getD-adjoining}
+use Rattle.bitmap.proofs.Laws.Blocks.{Distinct}
 use Rattle.model.specs.Types.{Memory, Error, GrantAnswer, NoExtent}
 use Rattle.model_types.specs.Answers.{granted}
 use Rattle.model.specs.First.{unlessRefused}
@@ -22,14 +23,12 @@ use Rattle.model.specs.Calls.AllocateExtent.{allocateExtentError, neares
 use Rattle.model.specs.Extents.{IsExtent, Nearest, GrantsNearest, ListsAdjoining, ListsExtent, FindsExtent, NoneToFind, GrantsNamed}
 use Rattle.model.proofs.Laws.First.{none-first, first-some, none-append}
 use Rattle.model.proofs.Laws.Answered.{grant-answered, grant-refused}
-use Rattle.model.proofs.Laws.Accepted.{count-some, AllocateExtentAccepted, allocate-extent-accepted}
+use Rattle.model.proofs.Laws.Accepted.{count-some, spared-others, AllocateExtentAccepted, allocate-extent-accepted}
 use Rattle.model.proofs.Laws.FourCounts.{eligible-open, eligible-room}
+use Rattle.model.proofs.Laws.Fit.{availableIn}
 use Rattle.model.proofs.Laws.Taking.{AllAvailable, available-of}
 
--- whether a block is available, and the start nearest to a named one
-abbrev pub availableIn : Memory → ℕ → Bool
-availableIn memory = isAvailable (memory .sam .words) (memory .com .words)
-
+-- the start nearest to a named block
 abbrev pub nearestStart : Memory → ℕ → ℕ → ℕ
 nearestStart memory count near = nearest near (memory .blocks) (extentStarts memory count)
 
@@ -89,6 +88,10 @@ module _ (memory : Memory) (count : ℕ) where
     pub nearest-length : length (nearestExtent memory count near) ≡ count
     unfolding nearestExtent
     nearest-length = length-adjoining _ count
+
+    pub nearest-distinct : Distinct (nearestExtent memory count near)
+    unfolding nearestExtent
+    nearest-distinct = distinct-adjoining _ count
 
     pub nearest-extent-available : 1 ≤ length (extentStarts memory count) → AllAvailable memory (nearestExtent memory count near)
     unfolding nearestExtent
@@ -169,16 +172,18 @@ none-to-find memory s count near list refused c extent =
     let c22 = c18 .1 in
     let starts : List ℕ = extentStarts memory count in
     let found = member-some c starts (extent-starts memory count c (count-some count (c15 .0)) extent) in
-    ⊎-elim (λ h. let none-found = eqb-true (length starts) 0 h in omega (arith, found, none-found)) absurd c22
+    ⊎-elim (λ h. let none-found = eqb-true (length starts) 0 h in omega (arith, found, none-found)) (λ c24. absurd (c24 .1)) c22
 
 pub finds-extent : FindsExtent
 unfolding allocateExtentAnswer allocateExtentError precommitError blockOutOfRange noExtent granted
-finds-extent memory is-valid s count near list eligible below c extent =
+finds-extent memory is-valid s count near list eligible below c extent enough =
     let starts : List ℕ = extentStarts memory count in
     let found = member-some c starts (extent-starts memory count c (eligible .some) extent) in
     let accepted : allocateExtentError memory s count near list ≡ none =
     none-append _ _ (eligible-open memory s count list is-valid eligible)
     ∙ eligible-room memory s count list is-valid eligible _
-    ∙ none-first _ (lt-leb (memory .blocks) near below, (ne-eqb (length starts) 0 (λ z. omega (arith, found, z)), tt)) in
+    ∙ none-first _
+    (lt-leb (memory .blocks) near below,
+    (ne-eqb (length starts) 0 (λ z. omega (arith, found, z)), (spared-others memory s count (omega (arith, enough)), tt))) in
     let b : ℕ = getD (nearestExtent memory count near) 0 0 in
     (b, ap (λ (e : Option Error). granted e b) accepted)

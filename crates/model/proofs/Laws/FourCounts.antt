@@ -1,5 +1,6 @@
 -- What the counts of status promise (specs/FourCounts.antt).
-use Prim.Native.Nat.{ℕ}
+use Prim.Native.Nat.{ℕ, _-_}
+use native.Mathlib.Omega.{arith}
 use mathlib.Core.Path.{_≡_, refl, ap, sym, _∙_}
 use mathlib.Core.Logic.{⊎-elim}
 use mathlib.Core.Bool.{Bool, true, not, false≢true}
@@ -9,11 +10,13 @@ use lib.ListN.{length}
 use borrow.Author.Tests.{le-leb, lt-ltb, le-ltb}
 use Rattle.bitmap.specs.Sizes.{maxCount, countInRange}
 use Rattle.bitmap.proofs.Laws.Count.{allocated-parts, four-kinds}
-use Rattle.model.specs.Types.{Memory, Error, MemoryInvalid, CountRange, ListShort, TooFewAvailable}
+use Rattle.model.specs.Types.{Memory, Error, MemoryInvalid, CountRange, ListShort, TooFewAvailable, ReservedForOthers}
 use Rattle.model_types.specs.Answers.{granted, counted}
 use Rattle.model.specs.First.{Cause, first, firstOr, _⇒_}
 use Rattle.model.specs.Valid.{valid}
-use Rattle.model.specs.Causes.{memoryInvalid, countOutOfRange, listShort, available, tooFewAvailable}
+use Rattle.model.specs.Available.{available}
+use Rattle.model.specs.Reserves.{othersReserved}
+use Rattle.model.specs.Causes.{memoryInvalid, countOutOfRange, listShort, tooFewAvailable, reservedForOthers}
 use Rattle.model.specs.Calls.Allocate.{allocateError, allocateAnswer}
 use Rattle.model.specs.Calls.Status.{statusError, allocated, counts, statusAnswer}
 use Rattle.model.specs.FourCounts.{StatusAnswersCounts, FourAddUp, AllocatedIsFreeingAndHeld, AvailableIsCompared, Eligible, AvailableCanBeHad}
@@ -41,11 +44,6 @@ available-is-compared memory is-valid count = refl
 
 -- ---- an allocate and cause 17
 
--- the last cause of a list decides
-last-decides : (holds : Bool) (error : Error) → first (holds ⇒ error ∷ []) ≡ firstOr holds error none
-unfolding first
-last-decides holds error = refl
-
 -- refused by 17, there are too few: `cN` is what is left of the list from cause N on
 too-few : (memory : Memory) (s count : ℕ) (list : List ℕ) → allocateError memory s count list ≡ some TooFewAvailable
     → tooFewAvailable memory count ≡ true
@@ -59,7 +57,7 @@ too-few memory s count list e =
     let c15 = c13 .1 in
     let c16 = c15 .1 in
     let c17 = c16 .1 in
-    ⊎-elim (λ h. h) absurd c17
+    ⊎-elim (λ h. h) (λ c24. absurd (c24 .1)) c17
 
 module _ (memory : Memory) (s count : ℕ) (list : List ℕ) (is-valid : valid memory ≡ true) (eligible : Eligible memory s count list) where
   -- of an eligible call no cause up to 13 holds
@@ -79,19 +77,29 @@ module _ (memory : Memory) (s count : ℕ) (list : List ℕ) (is-valid : valid m
       cause-passed (countOutOfRange count) CountRange _ (rw (le-leb 1 count (eligible .some), le-leb count maxCount (eligible .few)))
       ∙ cause-passed (listShort list count) ListShort more (le-ltb (length list) count (eligible .room))
 
-  -- so 17 decides
-  decides : allocateError memory s count list ≡ firstOr (tooFewAvailable memory count) TooFewAvailable none
+  -- so 17 decides, and then 24
+  decides : allocateError memory s count list
+      ≡ first (tooFewAvailable memory count ⇒ TooFewAvailable ∷ reservedForOthers memory s count ⇒ ReservedForOthers ∷ [])
   unfolding allocateError precommitError
-  decides = none-append _ _ eligible-open ∙ eligible-room _ ∙ last-decides (tooFewAvailable memory count) TooFewAvailable
+  decides = none-append _ _ eligible-open ∙ eligible-room _
 
 pub available-can-be-had : AvailableCanBeHad
-unfolding counts allocateAnswer tooFewAvailable granted firstOr
+unfolding counts allocateAnswer tooFewAvailable reservedForOthers granted first firstOr
 available-can-be-had memory is-valid =
     record {
       never =
           λ s count list enough refused.
           let few = too-few memory s count list (grant-refused (allocateError memory s count list) _ TooFewAvailable refused) in
           false≢true (sym (le-ltb (length (available memory)) count enough) ∙ few);
-      granted = λ s count list eligible enough. rw (decides memory s count list is-valid eligible, le-ltb (length (available memory)) count enough);
+      granted = λ s count list eligible enough.
+          rw
+          (decides memory s count list is-valid eligible,
+          le-ltb (length (available memory)) count (omega (arith, enough)),
+          le-ltb (length (available memory) - count) (othersReserved (memory .reserves) s) (omega (arith, enough)));
+      reserved = λ s count list eligible enough few.
+          rw
+          (decides memory s count list is-valid eligible,
+          le-ltb (length (available memory)) count enough,
+          lt-ltb (length (available memory) - count) (othersReserved (memory .reserves) s) (omega (arith, enough, few)));
       always = λ s count list eligible few. rw (decides memory s count list is-valid eligible, lt-ltb (length (available memory)) count few);
     }

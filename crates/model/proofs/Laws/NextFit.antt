@@ -20,7 +20,7 @@ use Rattle.model.specs.Types.{Memory, Error, Pending, Nothing, Commit, R
 use Rattle.model_types.specs.Answers.{granted, grantNumber}
 use Rattle.model_types.specs.Memory.{zeroMemory}
 use Rattle.model.specs.First.{unlessRefused}
-use Rattle.model.specs.Causes.{available}
+use Rattle.model.specs.Available.{available}
 use Rattle.model.specs.Commit.{changedOf, committed}
 use Rattle.model.specs.Pending.{storesDone, storesDue, finished}
 use Rattle.model.specs.Rollback.{rolledBack}
@@ -34,13 +34,16 @@ use Rattle.model.specs.Calls.Committing.{commitError, committing, commit
 use Rattle.model.specs.Calls.Drop.{dropError, dropMemory}
 use Rattle.model.specs.Calls.Revoke.{revokeError, revokeMemory}
 use Rattle.model.specs.Calls.Storing.{storeError, advanced, storeMemory}
-use Rattle.model.specs.Outcome.{openCall, startCall, allocateCall, allocateExtentCall, deallocateCall, precommitCall, commitCall, dropCall, revokeCall, storeCall, statusCall, commitCostCall, crashCall, outcome}
+use Rattle.model.specs.Reserves.{reserving}
+use Rattle.model.specs.Calls.Reserve.{reserveError, reserveMemory}
+use Rattle.model.specs.Outcome.{openCall, startCall, allocateCall, allocateExtentCall, deallocateCall, precommitCall, commitCall, dropCall, revokeCall, storeCall, statusCall, commitCostCall, reserveCall, crashCall, outcome}
 use Rattle.model.specs.NextFit.{AvailableBlock, ahead, ListsMet, ListsFirstMet, AnswersFirstMet, CutRotation, ListsRotation, LowestFromZero, Behind, CursorBehindLast, CursorBehindExtent, CarriesOn, CursorAnew, movesCursor, CursorStays}
 use Rattle.model.proofs.Laws.Answered.{grant-answered}
 use Rattle.model.proofs.Laws.Accepted.{AllocateAccepted, allocate-accepted, allocate-extent-accepted}
 use Rattle.model.proofs.Laws.Valid.{ValidParts, valid-parts}
+use Rattle.model.proofs.Laws.Fit.{availableIn}
 use Rattle.model.proofs.Laws.Taking.{met-length}
-use Rattle.model.proofs.Laws.Extents.{availableIn, later-places, nearest-at, nearest-length}
+use Rattle.model.proofs.Laws.Extents.{later-places, nearest-at, nearest-length}
 
 -- ---- the order met
 
@@ -278,7 +281,7 @@ cursor-anew memory disk = (left (openError disk) (opened disk) zeroMemory 0 refl
 
 -- call by call
 pub cursor-stays : CursorStays
-unfolding movesCursor outcome startMemory started allocateMemory allocateAnswer allocateExtentMemory allocateExtentAnswer deallocateMemory freeing precommitMemory precommitting commitMemory committing committed dropMemory revokeMemory rolledBack storeMemory advanced
+unfolding movesCursor outcome startMemory started allocateMemory allocateAnswer allocateExtentMemory allocateExtentAnswer deallocateMemory freeing precommitMemory precommitting commitMemory committing committed dropMemory revokeMemory rolledBack storeMemory advanced reserveMemory reserving
 cursor-stays openCall memory disk e = absurd (false≢true (sym e))
 cursor-stays (startCall s) memory disk e = left (startError memory s) _ memory _ refl refl
 cursor-stays (allocateCall s count list) memory disk e = refused (allocateError memory s count list) _ _ memory e
@@ -295,4 +298,5 @@ cursor-stays storeCall memory disk e =
     refl
 cursor-stays statusCall memory disk e = refl
 cursor-stays (commitCostCall s count) memory disk e = refl
+cursor-stays (reserveCall s reservation) memory disk e = left (reserveError memory s reservation) _ memory _ refl refl
 cursor-stays crashCall memory disk e = absurd (false≢true (sym e))

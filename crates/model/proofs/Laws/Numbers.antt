@@ -4,7 +4,7 @@ use mathlib.Core.Path.{_≡_, refl}
 use mathlib.Core.Bool.{false}
 use mathlib.Core.Option.{Option, none, some}
 use lib.Dec.{eqb}
-use Rattle.model.specs.Types.{Error, MemoryInvalid, DiskLength, DiskBlocks, DiskBitmap, DiskLog, DiskMismatch, BlocksRange, WorkPending, NothingPending, SlotRange, SlotBusy, SlotIdle, SlotPrecommitted, SlotNotPrecommitted, CountRange, ListShort, TooFewAvailable, BlockRange, BlockFree, BlockFreeing, LineMalformed, NoExtent}
+use Rattle.model.specs.Types.{Error, MemoryInvalid, DiskLength, DiskBlocks, DiskBitmap, DiskLog, DiskMismatch, BlocksRange, WorkPending, NothingPending, SlotRange, SlotBusy, SlotIdle, SlotPrecommitted, SlotNotPrecommitted, CountRange, ListShort, TooFewAvailable, BlockRange, BlockFree, BlockFreeing, LineMalformed, NoExtent, OverReserved, ReservedForOthers}
 use Rattle.model_types.specs.Errors.{code}
 use Rattle.model_types.specs.Answers.{done, granted, due, doneNumber, grantNumber, storesNumber}
 
@@ -51,3 +51,5 @@ code-positive BlockFree = refl
 code-positive BlockFreeing = refl
 code-positive LineMalformed = refl
 code-positive NoExtent = refl
+code-positive OverReserved = refl
+code-positive ReservedForOthers = refl

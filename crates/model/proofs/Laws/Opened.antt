@@ -21,6 +21,7 @@ use Rattle.model.proofs.Laws.Writes.{and-both, words-same}
 use Rattle.model.proofs.Laws.StoreLists.{length-checkpointWith}
 use Rattle.model.proofs.Laws.DiskParts.{Opens, opens-parts, disk-parts, log-valid, told-none}
 use Rattle.model.proofs.Laws.Valid.{ValidParts, idle-valid}
+use Rattle.model.proofs.Laws.Fit.{none-fits}
 use Rattle.model.proofs.Laws.Touches.{one, xor-self}
 use Rattle.model.proofs.Laws.Matching.{quiet-matches, parts-matching}
 use Rattle.model.proofs.Laws.Pending.{parts-recovery}
@@ -51,6 +52,7 @@ module _ (disk : List ℕ) (opens : openError disk ≡ none) where
         com-below = durable-noBits disk opens;
         slots-valid = all-idle (diskBlocks disk) slotCount;
         touches-agree = allBelow-all (diskBlocks disk) _ (λ b _. eq-eqb 0 _ (sym (ap one (xor-self (bit (durable disk) b)))));
+        reserves-fit = none-fits (memoryWith pending) refl;
         pending-valid = valid;
       }
 

@@ -12,9 +12,10 @@ use Rattle.bitmap.specs.Blocks.{from, member}
 use Rattle.bitmap.proofs.Laws.Bits.{bit-below}
 use Rattle.bitmap.proofs.Laws.Blocks.{from-same}
 use Rattle.bitmap.proofs.Laws.Count.{count-more}
-use Rattle.model.specs.Types.{Bitmap, Slot, Pending, Memory}
-use Rattle.model_types.specs.Memory.{slotAt, idleSlot, isActive, samBit, tamBit, withCursor, withCom, withSlot, withPending}
+use Rattle.model.specs.Types.{Bitmap, Slot, Reserve, Pending, Memory}
+use Rattle.model_types.specs.Memory.{slotAt, idleSlot, isActive, samBit, tamBit, withCursor, withCom, withSlot, withReserves, withPending}
 use Rattle.model.specs.Valid.{touched}
+use Rattle.model.specs.Reserves.{reserving}
 use Rattle.model.specs.Commit.{committed}
 use Rattle.model.specs.Calls.Start.{started}
 use Rattle.model.specs.Calls.Allocate.{taking}
@@ -101,10 +102,11 @@ module _ (memory : Memory) (s : ℕ) (slot : Slot) («com» : Bitmap) where
         go true e = subst (λ (x : ℕ). Touches memory changed x (length blocks)) (eqb-true s t e) (own-more blocks few)
         go false e = other-kept t (λ q. eqb-false s t e (sym q))
 
--- whichever block is to be searched first
-cursor-touches : (memory other : Memory) (s more cursor : ℕ) → Touches memory other s more → Touches memory (withCursor other cursor) s more
+-- whichever block is to be searched first, and whatever is reserved
+aside-touches : (memory other : Memory) (s more cursor : ℕ) (reserves : List Reserve) → Touches memory other s more
+    → Touches memory (withReserves (withCursor other cursor) reserves) s more
 unfolding touchedBy touched
-cursor-touches memory other s more cursor t = record { few = t .few; volume = t .volume }
+aside-touches memory other s more cursor reserves t = record { few = t .few; volume = t .volume }
 
 -- no more is no more, for one slot or another
 none-more : {memory other : Memory} {s : ℕ} (t : Bool) → Touches memory other s (cond t 0 0) → Touches memory other s 0
@@ -122,7 +124,13 @@ module _ (memory : Memory) (s t : ℕ) (there : s < length (memory .slots)) wher
 
   pub rolled-back-touches : Touches memory (rolledBack memory s) t 0
   unfolding rolledBack
-  rolled-back-touches = none-more (eqb s t) (either-slot memory s idleSlot _ there t [] (λ b h. omega arith))
+  rolled-back-touches =
+      aside-touches memory _ t 0 (memory .cursor) _ (none-more (eqb s t) (either-slot memory s idleSlot _ there t [] (λ b h. omega arith)))
+
+  pub reserving-touches : (reservation : ℕ) → Touches memory (reserving memory s reservation) t 0
+  unfolding reserving
+  reserving-touches reservation =
+      aside-touches memory memory t 0 (memory .cursor) _ (record { few = omega arith; volume = refl })
 
   pub precommitting-touches : isActive (slotAt memory s .state) ≡ true → Touches memory (precommitting memory s) t 0
   unfolding precommitting touched
@@ -132,7 +140,7 @@ module _ (memory : Memory) (s t : ℕ) (there : s < length (memory .slots)) wher
     pub taking-touches : (blocks : List ℕ) → Touches memory (taking memory s blocks) t (cond (eqb s t) (length blocks) 0)
     unfolding taking touched xor
     taking-touches blocks =
-        cursor-touches memory _ t _ _
+        aside-touches memory _ t _ _ _
         (either-slot memory s _ _ there t blocks (λ b h.
         rw (bit-below (memory .blocks) (λ x. member x blocks || tamBit (slotAt memory s) x) b (parts .few-blocks) h)
         (go (member b blocks) (isActive (slotAt memory s .state)) (tamBit (slotAt memory s) b) (samBit memory b))))

@@ -8,12 +8,13 @@ use lib.ListN.{length, getD, set}
 use borrow.Author.Tests.{eq-eqb}
 use Rattle.bitmap.specs.Bits.{bit, noBitsFrom}
 use Rattle.bitmap.proofs.Laws.Blocks.{allBelow-all}
-use Rattle.model.specs.Types.{Bitmap, Slot, Pending, Nothing, Memory}
-use Rattle.model_types.specs.Memory.{slotAt, idleSlot, isActive, samBit, comBit, emptyBitmap, withCursor, withCom, withSlot, withPending}
-use Rattle.model.specs.Valid.{touched, sameWords, allSlots, slotValid, touches, touchesAgree, pendingValid}
+use Rattle.model.specs.Types.{Bitmap, Slot, Reserve, Pending, Nothing, Memory}
+use Rattle.model_types.specs.Memory.{slotAt, idleSlot, isActive, samBit, comBit, emptyBitmap, withCursor, withCom, withSlot, withReserves, withPending}
+use Rattle.model.specs.Available.{available}
+use Rattle.model.specs.Valid.{touched, took, takenBlocks, sameWords, allSlots, slotValid, touches, touchesAgree, pendingValid}
 use Rattle.model.proofs.Laws.Fields.{slots-length, slot-same, slot-other}
 use Rattle.model.proofs.Laws.Writes.{and-both, and-first, and-second}
-use Rattle.model.proofs.Laws.Valid.{ValidParts, touchesBlock, touches-at}
+use Rattle.model.proofs.Laws.Valid.{ReservesFit, ValidParts, touchesBlock, touches-at}
 
 -- 1 for true, 0 for false
 abbrev pub one : Bool → ℕ
@@ -113,8 +114,8 @@ balanced-agree memory other s parts volume l h others own =
       own b inside,
     )))
 
--- the memory with another slot s, another COM and nothing pending is valid
-pub touching-valid : (memory : Memory) (s : ℕ) (slot : Slot) («com» : Bitmap)
+-- the memory with another slot s, another COM, other reserves that fit and nothing pending is valid
+pub touching-valid : (memory : Memory) (s : ℕ) (slot : Slot) («com» : Bitmap) (reserves : List Reserve)
     → ValidParts memory
     → memory .pending ≡ Nothing
     → s < length (memory .slots)
@@ -124,9 +125,10 @@ pub touching-valid : (memory : Memory) (s : ℕ) (slot : Slot) («com» : Bitmap
     → b < memory .blocks
     → one (touchesBlock memory slot b) + one (differs memory b)
     ≡ one (touchesBlock memory (slotAt memory s) b) + one (xor (samBit memory b) (bit («com» .words) b)))
-    → ValidParts (withSlot (withCom memory «com») s slot)
+    → ReservesFit (withReserves (withSlot (withCom memory «com») s slot) reserves)
+    → ValidParts (withReserves (withSlot (withCom memory «com») s slot) reserves)
 unfolding touched pendingValid
-touching-valid memory s slot «com» parts nothing h new below own =
+touching-valid memory s slot «com» reserves parts nothing h new below own fit =
     record {
       some-blocks = parts .some-blocks;
       few-blocks = parts .few-blocks;
@@ -141,20 +143,23 @@ touching-valid memory s slot «com» parts nothing h new below own =
           subst (λ (x : Slot). one (touchesBlock memory x b) + one (differs memory b) ≡ one (touchesBlock memory (slotAt memory s) b) + one (differs next b))
           (sym (slot-same memory s slot h))
           (own b inside));
+      reserves-fit = fit;
       pending-valid = ap (pendingValid next) nothing;
     }
   where
     next : Memory
-    next = withSlot (withCom memory «com») s slot
+    next = withReserves (withSlot (withCom memory «com») s slot) reserves
 
--- the same memory to be searched from another of its blocks on, and with other valid work pending, is valid
-searched-valid : (memory : Memory) (cursor : ℕ) (pending : Pending)
+-- the same memory to be searched from another of its blocks on, with other reserves that fit and with other valid work pending, is
+-- valid
+searched-valid : (memory : Memory) (cursor : ℕ) (reserves : List Reserve) (pending : Pending)
     → ValidParts memory
     → cursor < memory .blocks
-    → pendingValid (withPending (withCursor memory cursor) pending) pending ≡ true
-    → ValidParts (withPending (withCursor memory cursor) pending)
+    → ReservesFit (withPending (withReserves (withCursor memory cursor) reserves) pending)
+    → pendingValid (withPending (withReserves (withCursor memory cursor) reserves) pending) pending ≡ true
+    → ValidParts (withPending (withReserves (withCursor memory cursor) reserves) pending)
 unfolding touchesAgree touched
-searched-valid memory cursor pending parts below valid =
+searched-valid memory cursor reserves pending parts below fit valid =
     record {
       some-blocks = parts .some-blocks;
       few-blocks = parts .few-blocks;
@@ -165,20 +170,42 @@ searched-valid memory cursor pending parts below valid =
       touches-agree =
           allBelow-all (memory .blocks) _
           (λ b h.
-          eq-eqb (touches (withPending (withCursor memory cursor) pending) b (memory .slots)) (one (differs memory b))
-          (touches-same memory (withPending (withCursor memory cursor) pending) b (memory .slots) (memory .slots) refl (λ t. refl)
+          eq-eqb (touches next b (memory .slots)) (one (differs memory b))
+          (touches-same memory next b (memory .slots) (memory .slots) refl (λ t. refl)
           ∙ touches-at memory b (parts .touches-agree) h));
+      reserves-fit = fit;
       pending-valid = valid;
     }
+  where
+    next : Memory
+    next = withPending (withReserves (withCursor memory cursor) reserves) pending
+
+-- the same reserves fit
+still-fits : (memory : Memory) (cursor : ℕ) (pending : Pending) → ReservesFit memory → ReservesFit (withPending (withCursor memory cursor) pending)
+unfolding available takenBlocks took touched
+still-fits memory cursor pending fit = record { total = fit .total; drawn = fit .drawn }
 
 -- to be searched from another block on, where nothing is pending
 pub cursor-valid : (memory : Memory) (cursor : ℕ) → ValidParts memory → memory .pending ≡ Nothing → cursor < memory .blocks
     → ValidParts (withCursor memory cursor)
 unfolding pendingValid
 cursor-valid memory cursor parts nothing below =
-    searched-valid memory cursor (memory .pending) parts below (ap (pendingValid (withCursor memory cursor)) nothing)
+    searched-valid memory cursor (memory .reserves) (memory .pending) parts below (still-fits memory cursor (memory .pending) (parts .reserves-fit))
+    (ap (pendingValid (withCursor memory cursor)) nothing)
+
+-- with other reserves, where nothing is pending
+pub reserves-valid : (memory : Memory) (reserves : List Reserve) → ValidParts memory → memory .pending ≡ Nothing
+    → ReservesFit (withReserves memory reserves)
+    → ValidParts (withReserves memory reserves)
+unfolding pendingValid
+reserves-valid memory reserves parts nothing fit =
+    searched-valid memory (memory .cursor) reserves (memory .pending) parts (parts .cursor-below) fit
+    (ap (pendingValid (withReserves memory reserves)) nothing)
 
 -- with other work pending
 pub pending-valid : (memory : Memory) (pending : Pending)
     → ValidParts memory → pendingValid (withPending memory pending) pending ≡ true → ValidParts (withPending memory pending)
-pending-valid memory pending parts valid = searched-valid memory (memory .cursor) pending parts (parts .cursor-below) valid
+pending-valid memory pending parts valid =
+    searched-valid memory (memory .cursor) (memory .reserves) pending parts (parts .cursor-below)
+    (still-fits memory (memory .cursor) pending (parts .reserves-fit))
+    valid

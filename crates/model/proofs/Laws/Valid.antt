@@ -4,19 +4,26 @@ use native.Mathlib.Omega.{arith}
 use mathlib.Core.Path.{_≡_, refl, ap}
 use mathlib.Core.Bool.{Bool, true, cond, xor, _&&_, false≢true}
 use mathlib.Core.List.{List, [], _∷_}
-use lib.ListN.{getD, replicate, getD-replicate}
+use lib.ListN.{length, getD, replicate, getD-replicate}
 use lib.Pow.{pow-pos}
-use lib.Dec.{ltb, eqb}
-use borrow.Author.Tests.{eqb-true, ltb-true, lt-ltb}
-use Rattle.bitmap.specs.Sizes.{maxBlocks, bitmapWords, blocksInRange}
+use lib.Dec.{leb, ltb, eqb}
+use borrow.Author.Tests.{eqb-true, leb-true, le-leb, ltb-true, lt-ltb}
+use Rattle.bitmap.specs.Sizes.{maxBlocks, bitmapWords, slotCount, blocksInRange}
 use Rattle.bitmap.specs.Bits.{noBitsFrom}
 use Rattle.bitmap.proofs.Laws.Bits.{noBits-all}
-use Rattle.bitmap.proofs.Laws.Blocks.{allBelow-at}
+use Rattle.bitmap.proofs.Laws.Blocks.{allBelow-at, allBelow-all}
 use Rattle.model.specs.Types.{Slot, Memory}
-use Rattle.model_types.specs.Memory.{slotAt, idleSlot, isActive, samBit, comBit}
-use Rattle.model.specs.Valid.{touched, allSlots, slotValid, touches, touchesAgree, pendingValid, valid}
+use Rattle.model_types.specs.Memory.{slotAt, reserveAt, idleSlot, isActive, samBit, comBit}
+use Rattle.model.specs.Available.{available}
+use Rattle.model.specs.Reserves.{totalReserved}
+use Rattle.model.specs.Valid.{touched, allSlots, slotValid, touches, touchesAgree, takenBlocks, reservationsFit, drawnFit, pendingValid, valid}
 use Rattle.model.proofs.Laws.Writes.{and-both, and-first, and-second, words-same}
 use Rattle.model.proofs.Laws.DiskParts.{blocks-inRange, inRange-low, inRange-high}
+
+-- what is reserved is available, and no slot has drawn more than it took
+pub record ReservesFit (memory : Memory) : Type 0 where
+  pub total : totalReserved (memory .reserves) ≤ length (available memory)
+  pub drawn : (s : ℕ) → s < slotCount → reserveAt memory s .drawn ≤ length (takenBlocks memory s)
 
 pub record ValidParts (memory : Memory) : Type 0 where
   pub some-blocks : 1 ≤ memory .blocks
@@ -26,16 +33,46 @@ pub record ValidParts (memory : Memory) : Type 0 where
   pub com-below : noBitsFrom (memory .blocks) (memory .com .words) ≡ true
   pub slots-valid : allSlots (slotValid (memory .blocks)) (memory .slots) ≡ true
   pub touches-agree : touchesAgree memory ≡ true
+  pub reserves-fit : ReservesFit memory
   pub pending-valid : pendingValid memory (memory .pending) ≡ true
 
--- the first two: the block count and the cursor
+-- the clauses up to the slots' touches, one after the other: the block count and the cursor, SAM, COM, the slots
 abbrev pub headValid : Memory → Bool
 headValid memory = blocksInRange (memory .blocks) && ltb (memory .cursor) (memory .blocks)
+
+abbrev samValid : Memory → Bool
+samValid memory = headValid memory && noBitsFrom (memory .blocks) (memory .sam .words)
+
+abbrev comValid : Memory → Bool
+comValid memory = samValid memory && noBitsFrom (memory .blocks) (memory .com .words)
+
+abbrev allValid : Memory → Bool
+allValid memory = comValid memory && allSlots (slotValid (memory .blocks)) (memory .slots)
+
+pub fit-parts : (memory : Memory) → reservationsFit memory ≡ true → drawnFit memory ≡ true → ReservesFit memory
+unfolding reservationsFit drawnFit
+fit-parts memory e f =
+    record {
+      total = leb-true (totalReserved (memory .reserves)) (length (available memory)) e;
+      drawn = λ s h.
+          leb-true (reserveAt memory s .drawn) (length (takenBlocks memory s))
+          (allBelow-at slotCount (λ t. leb (reserveAt memory t .drawn) (length (takenBlocks memory t))) s f h);
+    }
+
+pub parts-fit : (memory : Memory) → ReservesFit memory → (reservationsFit memory ≡ true) × (drawnFit memory ≡ true)
+unfolding reservationsFit drawnFit
+parts-fit memory fit = (
+  le-leb (totalReserved (memory .reserves)) (length (available memory)) (fit .total),
+  allBelow-all slotCount (λ t. leb (reserveAt memory t .drawn) (length (takenBlocks memory t)))
+      (λ s h. le-leb (reserveAt memory s .drawn) (length (takenBlocks memory s)) (fit .drawn s h)),
+)
 
 pub valid-parts : (memory : Memory) → valid memory ≡ true → ValidParts memory
 unfolding valid
 valid-parts memory e =
-    let e5 = and-first _ (pendingValid memory (memory .pending)) e in
+    let e7 = and-first _ (pendingValid memory (memory .pending)) e in
+    let e6 = and-first _ (drawnFit memory) e7 in
+    let e5 = and-first _ (reservationsFit memory) e6 in
     let e4 = and-first _ (touchesAgree memory) e5 in
     let e3 = and-first _ (allSlots (slotValid (memory .blocks)) (memory .slots)) e4 in
     let e2 = and-first _ (noBitsFrom (memory .blocks) (memory .com .words)) e3 in
@@ -46,29 +83,14 @@ valid-parts memory e =
       few-blocks = inRange-high (memory .blocks) e0;
       cursor-below = ltb-true (memory .cursor) (memory .blocks) (and-second (blocksInRange (memory .blocks)) _ e1);
       sam-below = and-second (headValid memory) _ e2;
-      com-below = and-second (headValid memory && noBitsFrom (memory .blocks) (memory .sam .words)) _ e3;
-      slots-valid =
-          and-second
-          (headValid memory && noBitsFrom (memory .blocks) (memory .sam .words) && noBitsFrom (memory .blocks) (memory .com .words))
-          _
-          e4;
-      touches-agree =
-          and-second
-          (headValid memory
-          && noBitsFrom (memory .blocks) (memory .sam .words)
-          && noBitsFrom (memory .blocks) (memory .com .words)
-          && allSlots (slotValid (memory .blocks)) (memory .slots))
-          _
-          e5;
-      pending-valid =
-          and-second
-          (headValid memory
-          && noBitsFrom (memory .blocks) (memory .sam .words)
-          && noBitsFrom (memory .blocks) (memory .com .words)
-          && allSlots (slotValid (memory .blocks)) (memory .slots)
-          && touchesAgree memory)
-          _
-          e;
+      com-below = and-second (samValid memory) _ e3;
+      slots-valid = and-second (comValid memory) _ e4;
+      touches-agree = and-second (allValid memory) _ e5;
+      reserves-fit =
+          fit-parts memory
+          (and-second (allValid memory && touchesAgree memory) _ e6)
+          (and-second (allValid memory && touchesAgree memory && reservationsFit memory) _ e7);
+      pending-valid = and-second (allValid memory && touchesAgree memory && reservationsFit memory && drawnFit memory) _ e;
     }
 
 -- what holds of every slot holds of slot s, if it holds of an idle one
@@ -140,12 +162,15 @@ slot-below memory s parts =
 pub parts-valid : (memory : Memory) → ValidParts memory → valid memory ≡ true
 unfolding valid
 parts-valid memory parts =
+    let fit = parts-fit memory (parts .reserves-fit) in
     and-both
     (and-both
     (and-both
-    (and-both (and-both head-is (parts .sam-below)) (parts .com-below))
-    (parts .slots-valid))
+    (and-both
+    (and-both (and-both (and-both head-is (parts .sam-below)) (parts .com-below)) (parts .slots-valid))
     (parts .touches-agree))
+    (fit .0))
+    (fit .1))
     (parts .pending-valid)
   where
     head-is : headValid memory ≡ true

@@ -8,15 +8,16 @@ use mathlib.Core.List.{List, [], _∷_}
 use lib.ListN.{length}
 use lib.Dec.{eqb}
 use Rattle.bitmap.specs.Blocks.{from}
-use Rattle.model.specs.Types.{Error, StoresAnswer, Memory, MemoryInvalid, WorkPending, SlotRange, SlotIdle, SlotPrecommitted, CountRange, TooFewAvailable}
+use Rattle.model.specs.Types.{Error, StoresAnswer, Memory, MemoryInvalid, WorkPending, SlotRange, SlotIdle, SlotPrecommitted, CountRange, TooFewAvailable, ReservedForOthers}
 use Rattle.model.specs.First.{first, _⇒_}
 use Rattle.model_types.specs.Answers.{due}
 use Rattle.model_types.specs.Memory.{slotAt, volumeWords}
 use Rattle.model_types.specs.Pending.{storesFor}
 use Rattle.model.specs.Valid.{touched}
-use Rattle.model.specs.Causes.{memoryInvalid, workPending, slotOutOfRange, slotInactive, slotPrecommitted, countTooLarge, tooFewAvailable}
+use Rattle.model.specs.Causes.{memoryInvalid, workPending, slotOutOfRange, slotInactive, slotPrecommitted, countTooLarge, tooFewAvailable, reservedForOthers}
 
--- "Causes as for allocate, but a count of 0 passes and no list is lent."
+-- "Causes as for allocate, but a count of 0 passes and no list is lent." Job 7: 24 "last, for runs and Job 2's
+-- foretelling too"
 unfoldable pub commitCostError : Memory → ℕ → ℕ → Option Error
 commitCostError memory s count =
     first
@@ -27,6 +28,7 @@ commitCostError memory s count =
     ∷ slotPrecommitted memory s ⇒ SlotPrecommitted
     ∷ countTooLarge count ⇒ CountRange
     ∷ tooFewAvailable memory count ⇒ TooFewAvailable
+    ∷ reservedForOthers memory s count ⇒ ReservedForOthers
     ∷ [])
 
 -- the blocks that slot s has touched so far, lowest first; t is their number

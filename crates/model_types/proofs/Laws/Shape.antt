@@ -13,16 +13,29 @@ use denote.Struct.Field.{u32-field, array-field}
 use Rattle.bitmap.specs.Sizes.{slotCount, bitmapWords}
 use Rattle.bitmap.specs.Bits.{IsBitmap}
 use Rattle.model_types.specs.declared.memory.Slot.{Slot}
+use Rattle.model_types.specs.declared.memory.Reserve.{Reserve}
 use Rattle.model_types.specs.declared.memory.Memory.{Memory}
-use Rattle.model_types.specs.Memory.{slotAt, idleSlot}
+use Rattle.model_types.specs.Memory.{slotAt, idleSlot, noReserve, noReserves}
 use Rattle.model_types.proofs.memory.Slot.{the-row as slot-row, the-field as slot-field}
+use Rattle.model_types.proofs.memory.Reserve.{the-row as reserve-row, the-field as reserve-field}
 use Rattle.model_types.proofs.memory.Memory.{the-row as memory-row}
+
+-- two numbers of 32 bits
+pub record SmallReserve (reserve : Reserve) : Type 0 where
+  pub reservation : reserve .reservation < 2 ^ 32
+  pub drawn : reserve .drawn < 2 ^ 32
+
+-- what is reserved for eight slots
+pub record ShapedReserves (reserves : List Reserve) : Type 0 where
+  pub eight : length reserves ≡ slotCount
+  pub small : (s : ℕ) → SmallReserve (getD reserves s noReserve)
 
 pub record Shaped (memory : Memory) : Type 0 where
   pub sam : IsBitmap (memory .sam .words)
   pub «com» : IsBitmap (memory .com .words)
   pub slots : length (memory .slots) ≡ slotCount
   pub tam : (s : ℕ) → IsBitmap (slotAt memory s .tam .words)
+  pub reserves : ShapedReserves (memory .reserves)
 
 -- and every array of slots
 pub record ShapedSlots (slots : List Slot) : Type 0 where
@@ -91,6 +104,46 @@ each-slot (slot ∷ slots) (u ∷ us) h (suc s) = each-slot slots us (h .1) s
 pub slots-shaped : (slots : List Slot) (vs : List Val) → Is (Array slot-row slotCount) slots vs → ShapedSlots slots
 slots-shaped slots vs good = record { eight = good .1 .0 .1; tam = each-slot slots (good .0) (good .1 .1) }
 
+-- of a reserve
+pub reserve-small : (reserve : Reserve) (vs : List Val) → Is reserve-row reserve vs → SmallReserve reserve
+reserve-small reserve vs good = record { reservation = good .1 .1 .0 .1; drawn = good .1 .1 .1 .0 .1 }
+
+none-small : SmallReserve noReserve
+none-small = record { reservation = omega arith; drawn = omega arith }
+
+-- of each of an array
+each-reserve : (reserves : List Reserve) (us : List Val) → shadow (each (reserve-field .row .Denot) (reserve-field .row .own) (map (reserve-field .into) reserves) us) → (s : ℕ)
+    → SmallReserve (getD reserves s noReserve)
+each-reserve [] us h s = none-small
+each-reserve (reserve ∷ reserves) [] h s = absurd h
+each-reserve (reserve ∷ reserves) (u ∷ us) h zero = reserve-small reserve (u ∷ []) (h .0)
+each-reserve (reserve ∷ reserves) (u ∷ us) h (suc s) = each-reserve reserves us (h .1) s
+
+-- of an array that is a parameter
+each-own-reserve : (reserves : List Reserve) (us : List Val) → shadow (each Reserve (reserve-row .own) reserves us) → (s : ℕ) → SmallReserve (getD reserves s noReserve)
+each-own-reserve [] us h s = none-small
+each-own-reserve (reserve ∷ reserves) [] h s = absurd h
+each-own-reserve (reserve ∷ reserves) (u ∷ us) h zero = reserve-small reserve (u ∷ []) (h .0)
+each-own-reserve (reserve ∷ reserves) (u ∷ us) h (suc s) = each-own-reserve reserves us (h .1) s
+
+pub reserves-shaped : (reserves : List Reserve) (vs : List Val) → Is (Array reserve-row slotCount) reserves vs → ShapedReserves reserves
+reserves-shaped reserves vs good = record { eight = good .1 .0 .1; small = each-own-reserve reserves (good .0) (good .1 .1) }
+
+-- of one that is a field
+pub reserves-field-shaped : (reserves : List Reserve) (vs : List Val) → Is (array-field reserve-field slotCount .row) (map (reserve-field .into) reserves) vs
+    → ShapedReserves reserves
+reserves-field-shaped reserves vs good =
+    record { eight = sym (length-map reserves (reserve-field .into)) ∙ good .1 .0 .1; small = each-reserve reserves (good .0) (good .1 .1) }
+
+-- nothing reserved
+pub none-shaped : ShapedReserves noReserves
+none-shaped = record { eight = refl; small = all-none slotCount }
+  where
+    all-none : (n s : ℕ) → SmallReserve (getD (replicate n noReserve) s noReserve)
+    all-none zero s = none-small
+    all-none (suc n) zero = none-small
+    all-none (suc n) (suc s) = all-none n s
+
 -- of a memory. In a proof `c .good .0` is what is to be known of a first parameter
 pub shaped : (memory : Memory) (vs : List Val) → Is memory-row memory vs → Shaped memory
 shaped memory vs good =
@@ -100,4 +153,5 @@ shaped memory vs good =
       «com» = words-shaped (memory .com .words) _ (good .1 .1 .1 .1 .1 .0 .1 .1 .0);
       slots = sym (length-map (memory .slots) (slot-field .into)) ∙ slots .1 .0 .1;
       tam = each-shaped (memory .slots) (slots .0) (slots .1 .1);
+      reserves = reserves-field-shaped (memory .reserves) _ (good .1 .1 .1 .1 .1 .1 .1 .0);
     }

@@ -8,7 +8,9 @@ use Rattle.bitmap.specs.declared.Bitmap.{Bitmap}
 use Rattle.bitmap.specs.Sizes.{slotIndex, IsSlot}
 use Rattle.model_types.specs.declared.memory.Memory.{Memory}
 use Rattle.model_types.specs.declared.memory.Slot.{Slot}
-use Rattle.model_types.specs.Memory.{bitmap, slotAt, idleSlot, withCom, withSlots}
+use Rattle.model_types.specs.declared.memory.Reserve.{Reserve}
+use Rattle.model_types.specs.Memory.{bitmap, slotAt, idleSlot, noReserve, withCom, withSlots, withReserves}
+use Rattle.model.specs.Reserves.{putBack}
 use Rattle.model.specs.Valid.{valid}
 use Rattle.model.specs.Rollback.{rolledBackCom, rolledBack}
 use Rattle.model_types.proofs.Laws.Shape.{Shaped}
@@ -27,8 +29,9 @@ rolled-com memory s shape v =
     rollback-bitmap (memory .blocks) (parts .few-blocks) (memory .com .words) (memory .sam .words) (slotAt memory s .tam .words)
     (shape .com) (shape .sam) (shape .tam s) (parts .com-below) (parts .sam-below) (slot-below memory s parts)
 
--- COM and the slots put back, by what `roll_back` has made of them
-pub rolled-memory : {i : ℕ} {words : List ℕ} {idle : Slot} {«com» : Bitmap} {slots : List Slot} (memory : Memory) (d : Slot) (s : ℕ)
+-- COM, the slots and what is reserved put back, by what `roll_back` and `put_back` have made of them
+pub rolled-memory : {i : ℕ} {words : List ℕ} {idle : Slot} {«com» : Bitmap} {slots : List Slot} {reserves : List Reserve}
+    (memory : Memory) (d : Slot) (s : ℕ)
     → Shaped memory
     → Ready memory s
     → IsSlot (slotIndex s) i
@@ -36,11 +39,23 @@ pub rolled-memory : {i : ℕ} {words : List ℕ} {idle : Slot} {«com» : Bitmap
     → idle ≡ idleSlot
     → «com» ≡ bitmap words
     → slots ≡ set (memory .slots) i idle
-    → withSlots (withCom memory «com») slots ≡ rolledBack memory s
+    → reserves ≡ set (memory .reserves) i (putBack (getD (memory .reserves) i noReserve))
+    → withReserves (withSlots (withCom memory «com») slots) reserves ≡ rolledBack memory s
 unfolding rolledBack
-rolled-memory memory d s shape ready index restored given com-is slots-are =
-    ap₂ (λ (x : Bitmap) (y : List Slot). withSlots (withCom memory x) y)
+rolled-memory {i = i} {reserves = reserves} memory d s shape ready index restored given com-is slots-are reserves-are =
+    ap₂ (λ (x : Bitmap) (y : List Slot). withReserves (withSlots (withCom memory x) y) reserves)
     (com-is ∙ ap bitmap (restored
     ∙ ap (λ (slot : Slot). zip3 rollbackWord (memory .com .words) (memory .sam .words) (slot .tam .words)) (own-slot memory d s shape index (ready .below))
     ∙ rolled-com memory s shape (ready .is-valid)))
-    (slots-are ∙ ap₂ (set (memory .slots)) (index-is s index (ready .below)) given)
+    (slots-are ∙ ap₂ (set (memory .slots)) at given)
+    ∙ ap (λ (z : List Reserve). withReserves (withSlots (withCom memory (rolledBackCom memory s)) (set (memory .slots) s idleSlot)) z)
+    (reserves-are ∙ ap (λ (k : ℕ). set (memory .reserves) k (putBack (getD (memory .reserves) k noReserve))) at)
+  where
+    at : i ≡ s
+    at = index-is s index (ready .below)
+
+-- and where each is as it was
+pub kept-memory : {«com» : Bitmap} {slots : List Slot} {reserves : List Reserve} (memory : Memory) → «com» ≡ memory .com → slots ≡ memory .slots
+    → reserves ≡ memory .reserves
+    → withReserves (withSlots (withCom memory «com») slots) reserves ≡ memory
+kept-memory memory com-is slots-are reserves-are = rw (com-is, slots-are, reserves-are)

@@ -23,7 +23,7 @@ shape-at c = shaped (c .args .memory) _ (c .good .0)
 
 -- where the slot has been tested
 abbrev entered : tie.Joined1 → tie.Start
-entered c = c .before .before .before .before .before .before .before .before .before .before .before .before .before .before .before .before
+entered c = c .before .before .before .before .before .before .before .before .before .before .before .before .before .before .before .before .before
 
 verdict-is : (c : tie.Joined1) → c .before .before .before .idle .result ≡ verdict (startError (entered c .args .memory) (entered c .args .slot))
 verdict-is c =
@@ -45,7 +45,7 @@ array-copy-out-owner c = search needs
 
 valid-requires : tie.Need-valid-requires
 valid-requires c κs =
-    let b = c .before .before .before .before .before .before .before .before .before in
+    let b = c .before .before .before .before .before .before .before .before .before .before in
     let shape = shape-at b in
     (shape .sam, (shape .com, owner-read (b .args .memory) _ shape (c .before .before .before .before .before .owner .ensures)))
 

@@ -21,13 +21,13 @@ array-copy-out-owner c = search needs
 
 valid-requires : tie.Need-valid-requires
 valid-requires c κs =
-    let b = c .before .before .before .before .before .before .before .before .before in
+    let b = c .before .before .before .before .before .before .before .before .before .before in
     let shape = shape-at b in
     (shape .sam, (shape .com, owner-read (b .args .memory) _ shape (c .before .before .before .before .before .owner .ensures)))
 
 count-blocks-requires : tie.Need-count-blocks-requires
 count-blocks-requires c κs =
-    let shape = shape-at (c .before .before .before .before .before .before .before .before .before .before .before .before .before .before) in
+    let shape = shape-at (c .before .before .before .before .before .before .before .before .before .before .before .before .before .before .before) in
     search (shape .sam, shape .com)
 
 count-active-requires : tie.Need-count-active-requires
@@ -36,13 +36,13 @@ count-active-requires c κs = search needs
 counted-requires : tie.Need-counted-requires
 counted-requires c κs e =
     let tested = c .before .before .before .before .before .before in
-    let b = tested .before .before .before .before .before .before .before .before .before .before in
+    let b = tested .before .before .before .before .before .before .before .before .before .before .before in
     tally-within (b .args .memory) _ (c .before .count-blocks .ensures) (sym (tested .valid .ensures) ∙ e)
 
 returns : tie.Need-returns
 returns c =
     let tested = c .before .before .before .before .before .before .before in
-    let b = tested .before .before .before .before .before .before .before .before .before .before in
+    let b = tested .before .before .before .before .before .before .before .before .before .before .before in
     (c .counted .ensures ∙ status-is (b .args .memory) _ (c .before .before .count-blocks .ensures) (tested .valid .ensures) (c .before .count-active .ensures), refl)
 
 pub status-spec : {M : Type 1} → statement M

@@ -19,7 +19,8 @@ use Rattle.model_types.specs.declared.memory.Pending.the-variants.{Nothing, Com
 use Rattle.model_types.specs.declared.memory.Memory.{Memory}
 use Rattle.model_types.specs.Answers.{due}
 use Rattle.model.specs.First.{Cause, first, _⇒_}
-use Rattle.model_types.specs.Memory.{slotAt, idleSlot, isActive, withSam, withSlots, withPending}
+use Rattle.model_types.specs.Memory.{slotAt, reserveAt, idleSlot, isActive, withSam, withSlots, withReserve, withPending}
+use Rattle.model.specs.Reserves.{usedUp}
 use Rattle.model.specs.Stores.{Store, writes, after, changes, commitStores}
 use Rattle.model.specs.Commit.{committedSam, entriesOf, refreshed, committed}
 use Rattle.model_types.specs.Pending.{isNothing, ownerOf}
@@ -155,9 +156,12 @@ module _ (memory : Memory) (shape : Shaped memory) (v : valid memory ≡ true) w
 
   pub ended-commit : endsCommit (memory .pending) ≡ true
       → withPending
+      (withReserve
       (withSlots
       (withSam memory (owner memory .tam))
       (map (refreshedSlot (memory .sam .words) (owner memory .tam .words)) (set (memory .slots) (ownerOf (memory .pending)) idleSlot)))
+      (ownerOf (memory .pending))
+      (usedUp (reserveAt memory (ownerOf (memory .pending)))))
       (pendingAfter (memory .pending))
       ≡ advanced memory (memory .pending)
   unfolding endsCommit pendingAfter advanced finished committed storesDone storesDue ownerOf slotIndex slotInRange
@@ -167,11 +171,17 @@ module _ (memory : Memory) (shape : Shaped memory) (v : valid memory ≡ true) w
       new slots = map (refreshedSlot (memory .sam .words) (owner memory .tam .words)) slots
 
       go : (p : Pending) → memory .pending ≡ p → endsCommit p ≡ true
-          → withPending (withSlots (withSam memory (owner memory .tam)) (new (set (memory .slots) (ownerOf p) idleSlot))) (pendingAfter p) ≡ advanced memory p
+          → withPending
+          (withReserve
+          (withSlots (withSam memory (owner memory .tam)) (new (set (memory .slots) (ownerOf p) idleSlot)))
+          (ownerOf p)
+          (usedUp (reserveAt memory (ownerOf p))))
+          (pendingAfter p)
+          ≡ advanced memory p
       go Nothing e t = absurd (false≢true t)
       go (Commit s done due) e t =
           rw (t, lt-ltb s slotCount (below s done due e))
-          (ap₂ (λ (sam : Bitmap) (slots : List Slot). withPending (withSlots (withSam memory sam) slots) Nothing) (sym (sam-is s done due e)) (slots-are s done due e))
+          (ap₂ (λ (sam : Bitmap) (slots : List Slot). withPending (withReserve (withSlots (withSam memory sam) slots) s (usedUp (reserveAt memory s))) Nothing) (sym (sam-is s done due e)) (slots-are s done due e))
       go (Recovery done due) e t = absurd (false≢true t)
 
   pub no-commit-ended : endsCommit (memory .pending) ≡ false → withPending memory (pendingAfter (memory .pending)) ≡ advanced memory (memory .pending)

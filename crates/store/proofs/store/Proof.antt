@@ -10,10 +10,12 @@ use Rattle.bitmap.specs.declared.Bitmap.{Bitmap}
 use Rattle.model_types.specs.declared.error.Error.{Error}
 use Rattle.model_types.specs.declared.answer.StoresAnswer.{StoresAnswer}
 use Rattle.model_types.specs.declared.memory.Slot.{Slot}
+use Rattle.model_types.specs.declared.memory.Reserve.{Reserve}
 use Rattle.model_types.specs.declared.memory.Pending.{Pending}
 use Rattle.model_types.specs.declared.memory.Memory.{Memory}
 use Rattle.model.specs.First.{first}
-use Rattle.model_types.specs.Memory.{idleSlot, withSam, withSlots, withPending}
+use Rattle.model_types.specs.Memory.{idleSlot, noReserve, withSam, withSlots, withReserves, withPending}
+use Rattle.model.specs.Reserves.{usedUp}
 use Rattle.model_types.specs.Answers.{due}
 use Rattle.model.specs.Calls.Storing.{storeError, advanced, nextStored, storeAnswer, storeMemory, storeDisk}
 use Rattle.model_types.proofs.Laws.Shape.{Shaped, shaped}
@@ -36,7 +38,7 @@ shape-at c = shaped (c .args .memory) _ (c .good .0)
 
 -- where the causes are tested
 abbrev entered : tie.After-is-accepted → tie.Start
-entered c = c .before .before .before .before .before .before .before .before .before .before .before .before .before .before .before .before .before .before .before
+entered c = c .before .before .before .before .before .before .before .before .before .before .before .before .before .before .before .before .before .before .before .before
 
 -- the slot that is read is the pending commit's
 owner-at : (c : tie.After-is-accepted) (d : Slot) → getD (entered c .args .memory .slots) (c .before .before .before .before .before .before .before .before .before .before .before .before .before .before .owner .result) d ≡ owner (entered c .args .memory)
@@ -57,6 +59,14 @@ told c = store-accepted _ _ (accepted-none _ (verdict-is (c .before)) (c .before
 unfinished-at : (c : tie.Then1) → Unfinished (entered (c .before) .args .memory .pending)
 unfinished-at c = let b = entered (c .before) in fits (b .args .memory) (shape-at b) (told c .is-valid) .unfinished
 
+-- the memory with these parts put back
+abbrev put : Memory → Bitmap → List Slot → List Reserve → Pending → Memory
+put memory sam slots reserves pending = withPending (withReserves (withSlots (withSam memory sam) slots) reserves) pending
+
+same-parts : {sam sam' : Bitmap} {slots slots' : List Slot} {reserves reserves' : List Reserve} (memory : Memory) (pending : Pending)
+    → sam ≡ sam' → slots ≡ slots' → reserves ≡ reserves' → put memory sam slots reserves pending ≡ put memory sam' slots' reserves' pending
+same-parts memory pending sam-is slots-are reserves-are = rw (sam-is, slots-are, reserves-are)
+
 -- ---- the needs
 
 owner-requires : tie.Need-owner-requires
@@ -70,13 +80,13 @@ array-copy-out-owner c = search needs
 
 valid-requires : tie.Need-valid-requires
 valid-requires c κs =
-    let b = c .before .before .before .before .before .before .before .before .before .before in
+    let b = c .before .before .before .before .before .before .before .before .before .before .before in
     let shape = shape-at b in
     (shape .sam, (shape .com, owner-read (b .args .memory) _ shape (c .before .before .before .before .before .owner .ensures)))
 
 judge-requires : tie.Need-judge-requires
 judge-requires c κs =
-    let b = c .before .before .before .before .before .before .before .before .before .before .before .before .before .before .before .before in
+    let b = c .before .before .before .before .before .before .before .before .before .before .before .before .before .before .before .before .before in
     let shape = shape-at b in
     let index = c .before .before .before .before .before .before .before .before .before .before .before .owner .ensures in (
       shape .sam,
@@ -114,6 +124,11 @@ refreshed-requires c κs =
     let index = tested .before .before .before .before .before .before .before .before .before .before .before .before .before .before .owner .ensures in
     (index .below, (shape-at b .sam, own-tam (b .args .memory) _ (shape-at b) index))
 
+use-up-requires : tie.Need-use-up-requires
+use-up-requires c κs =
+    let tested = c .before .before .before .before .before .before .before .before .before .before .before .before .before .before .before .before .before .before in
+    tested .before .before .before .before .before .before .before .before .before .before .before .before .before .before .owner .ensures .below
+
 pending-after-requires : tie.Need-pending-after-requires
 pending-after-requires c κs = unfinished-at (c .before .before .before .before .before .before .before .before .before .before .before)
 
@@ -137,28 +152,29 @@ returns c =
     let disk = nextStored (a .memory) (now (a .disk)) in
     let is = verdict-is tested in
     let test = tested .is-accepted .ensures in
-    let put : Bitmap → List Slot → Pending → Memory = λ sam slots pending. withPending (withSlots (withSam (a .memory) sam) slots) pending in
+    let left = c .before .if1 in
     ⊎-elim
     (λ w.
     let then : tie.Then1 = record { before = tested; if1 = w .0 } in
     let t = told then in
     let none = accepted-none error is test (w .0 .taken) in
     let flag = sym (w .10 .ensures) in (
-      w .17 ∙ ap StoresAnswer.Due (w .9 .ensures) ∙ accepted-stores error _ none,
+      w .18 ∙ ap StoresAnswer.Due (w .9 .ensures) ∙ accepted-stores error _ none,
       (
         c .with-pending .ensures
-            ∙ ap (λ (pending : Pending). put (c .before .if1 .sam) (c .before .if1 .slots) pending) (w .16 ∙ w .12 .ensures)
-            ∙ ap₂ (λ (sam : Bitmap) (slots : List Slot). put sam slots (pendingAfter (a .memory .pending))) (w .14) (w .15)
+            ∙ ap (put (a .memory) (left .sam) (left .slots) (left .reserves)) (w .17 ∙ w .12 .ensures)
+            ∙ same-parts (a .memory) (pendingAfter (a .memory .pending)) (w .14) (w .15) (w .16)
             ∙ ⊎-elim
             (λ x.
-            ap₂ (λ (sam : Bitmap) (slots : List Slot). put sam slots (pendingAfter (a .memory .pending)))
-            (x .7 ∙ ap (λ (slot : Slot). slot .tam) (owner-at tested _))
-            (x .8
+            same-parts (a .memory) (pendingAfter (a .memory .pending))
+            (x .8 ∙ ap (λ (slot : Slot). slot .tam) (owner-at tested _))
+            (x .9
             ∙ x .5 .ensures
             ∙ ap₂ (λ (slot : Slot) (i : ℕ). map (refreshedSlot (a .memory .sam .words) (slot .tam .words)) (set (a .memory .slots) i idleSlot)) (owner-at tested _) (index .is))
+            (x .10 ∙ x .7 .ensures ∙ ap (λ (i : ℕ). set (a .memory .reserves) i (usedUp (getD (a .memory .reserves) i noReserve))) (index .is))
             ∙ ended-commit (a .memory) shape (t .is-valid) (flag ∙ x .0 .taken))
             (λ x.
-            ap₂ (λ (sam : Bitmap) (slots : List Slot). put sam slots (pendingAfter (a .memory .pending))) (x .1) (x .2)
+            same-parts (a .memory) (pendingAfter (a .memory .pending)) (x .1) (x .2) (x .3)
             ∙ no-commit-ended (a .memory) shape (t .is-valid) (flag ∙ x .0 .left))
             (w .11 .came)
             ∙ accepted-leaves error new (a .memory) is test (w .0 .taken),
@@ -170,11 +186,11 @@ returns c =
       ),
     ))
     (λ w. (
-      w .5 ∙ tested .before .stores .ensures ∙ ap (λ (e : Option Error). due e 0) (error-of error is) ∙ refused-stores error 0 _ is test (w .0 .left),
+      w .6 ∙ tested .before .stores .ensures ∙ ap (λ (e : Option Error). due e 0) (error-of error is) ∙ refused-stores error 0 _ is test (w .0 .left),
       (
         c .with-pending .ensures
-            ∙ ap (λ (pending : Pending). put (c .before .if1 .sam) (c .before .if1 .slots) pending) (w .4)
-            ∙ ap₂ (λ (sam : Bitmap) (slots : List Slot). put sam slots (a .memory .pending)) (w .2) (w .3)
+            ∙ ap (put (a .memory) (left .sam) (left .slots) (left .reserves)) (w .5)
+            ∙ same-parts (a .memory) (a .memory .pending) (w .2) (w .3) (w .4)
             ∙ refused-leaves error new (a .memory) is test (w .0 .left),
         w .1 ∙ refused-leaves error disk (now (a .disk)) is test (w .0 .left),
       ),
@@ -196,6 +212,7 @@ store-spec =
     still-due-requires
     ends-commit-requires
     refreshed-requires
+    use-up-requires
     pending-after-requires
     with-pending-requires
     same-length

@@ -1,5 +1,5 @@
--- The bitmaps against `valid`: refused where a test fails, and where nothing is left the memory is valid but for its
--- pending work.
+-- The bitmaps against `valid`: refused where a test fails, and where nothing is left the memory is valid but for what is
+-- reserved and its pending work.
 use Prim.Native.Nat.{ℕ, _≤_, _<_}
 use native.Mathlib.Omega.{arith}
 use mathlib.Core.Path.{_≡_, refl, sym, ap, ap₂, _∙_}
@@ -15,11 +15,12 @@ use Rattle.bitmap.proofs.Laws.Blocks.{allBelow-all}
 use Rattle.model_types.specs.declared.memory.Slot.{Slot}
 use Rattle.model_types.specs.declared.memory.Pending.{Pending}
 use Rattle.model_types.specs.declared.memory.Memory.{Memory}
-use Rattle.model_types.specs.Memory.{slotAt, isActive, emptyBitmap, tamBit}
-use Rattle.model.specs.Valid.{touched, sameWords, allSlots, slotValid, touches, touchesAgree, pendingValid, valid}
+use Rattle.model_types.specs.Memory.{slotAt, isActive, emptyBitmap, noReserves, tamBit}
+use Rattle.model.specs.Valid.{touched, sameWords, allSlots, slotValid, touches, touchesAgree, reservationsFit, drawnFit, pendingValid, valid}
 use Rattle.model.proofs.Laws.Writes.{and-both, and-first, and-second, same-words, words-same}
 use Rattle.model.proofs.Laws.DiskParts.{inRange-low, inRange-high}
 use Rattle.model.proofs.Laws.Valid.{ValidParts, headValid, valid-parts, parts-valid, touchesBlock, touches-one, noBits-empty}
+use Rattle.model.proofs.Laws.Fit.{none-fits}
 use Rattle.model.proofs.Laws.Touches.{one, differs, active-valid}
 use Rattle.model_types.proofs.Laws.Shape.{Shaped}
 use Rattle.validity.proofs.Laws.Slots.{bool-ext, not-true-false, allSlots-all}
@@ -37,7 +38,17 @@ volumeValid memory =
 
 pub volume-wrong : (memory : Memory) → volumeValid memory ≡ false → false ≡ valid memory
 unfolding valid
-volume-wrong memory e = sym (ap (λ (t : Bool). t && allSlots (slotValid (memory .blocks)) (memory .slots) && touchesAgree memory && pendingValid memory (memory .pending)) e)
+volume-wrong memory e =
+    sym
+    (ap
+    (λ (t : Bool).
+    t
+    && allSlots (slotValid (memory .blocks)) (memory .slots)
+    && touchesAgree memory
+    && reservationsFit memory
+    && drawnFit memory
+    && pendingValid memory (memory .pending))
+    e)
 
 module _ (memory : Memory) (shape : Shaped memory) where
   pub slot-wrong : (s : ℕ) (left left' : List ℕ) → Passed memory s left
@@ -47,7 +58,7 @@ module _ (memory : Memory) (shape : Shaped memory) where
 
   -- ---- all slots are passed
 
-  module _ (left : List ℕ) (quiet : memory .pending ≡ Pending.Nothing) (volume : volumeValid memory ≡ true) (passed : Passed memory slotCount left)
+  module _ (left : List ℕ) (quiet : memory .pending ≡ Pending.Nothing) (none-reserved : memory .reserves ≡ noReserves) (volume : volumeValid memory ≡ true) (passed : Passed memory slotCount left)
       (none : sameWords left (replicate bitmapWords 0) ≡ true) where
     inHead : headValid memory ≡ true
     inHead = and-first _ (noBitsFrom (memory .blocks) (memory .sam .words)) (and-first _ (noBitsFrom (memory .blocks) (memory .com .words)) volume)
@@ -109,13 +120,14 @@ module _ (memory : Memory) (shape : Shaped memory) where
           com-below = comNone;
           slots-valid = allSlots-all (slotValid (memory .blocks)) (memory .slots) slot-valid;
           touches-agree = allBelow-all (memory .blocks) _ (λ b l. eq-eqb (touches memory b (memory .slots)) (one (differs memory b)) (exact b));
+          reserves-fit = none-fits memory none-reserved;
           pending-valid = ap (pendingValid memory) quiet;
         }
 
   -- what is left decides
-  pub left-decides : (left : List ℕ) (r : Bool) → memory .pending ≡ Pending.Nothing → volumeValid memory ≡ true → Passed memory slotCount left
+  pub left-decides : (left : List ℕ) (r : Bool) → memory .pending ≡ Pending.Nothing → memory .reserves ≡ noReserves → volumeValid memory ≡ true → Passed memory slotCount left
       → r ≡ sameWords left (replicate bitmapWords 0) → r ≡ valid memory
-  left-decides left r quiet volume passed e =
+  left-decides left r quiet none-reserved volume passed e =
       bool-ext r (valid memory)
-      (λ h. parts-valid memory (maps-parts left quiet volume passed (sym e ∙ h)))
+      (λ h. parts-valid memory (maps-parts left quiet none-reserved volume passed (sym e ∙ h)))
       (λ h. e ∙ left-none memory shape (valid-parts memory h) left passed)

@@ -6,11 +6,12 @@ use mathlib.Core.List.{List, [], _∷_}
 use lib.ListN.{length, getD}
 use Rattle.bitmap.specs.Bits.{IsBitmap}
 use Rattle.model_types.specs.declared.memory.Slot.{Slot}
+use Rattle.model_types.specs.declared.memory.Reserve.{Reserve}
 use Rattle.model_types.specs.declared.memory.Pending.{Pending}
 use Rattle.model_types.specs.Memory.{bitmap, memoryOf, idleSlot}
 use Rattle.model.specs.Valid.{allSlots}
 use Rattle.model.proofs.Laws.Writes.{and-both}
-use Rattle.model_types.proofs.Laws.Shape.{Shaped, ShapedSlots}
+use Rattle.model_types.proofs.Laws.Shape.{Shaped, ShapedSlots, ShapedReserves}
 
 -- two Bools are one if each is true where the other is
 pub bool-ext : (a b : Bool) → (a ≡ true → b ≡ true) → (b ≡ true → a ≡ true) → a ≡ b
@@ -30,6 +31,7 @@ unfolding allSlots
 allSlots-all test [] h = refl
 allSlots-all test (slot ∷ slots) h = and-both (h 0 (suc-le-suc zero-le)) (allSlots-all test slots (λ s l. h (suc s) (suc-le-suc l)))
 
-pub parts-shaped : {blocks cursor : ℕ} {sam «com» : List ℕ} {slots : List Slot} {pending : Pending} → IsBitmap sam → IsBitmap «com» → ShapedSlots slots
-    → Shaped (memoryOf blocks cursor (bitmap sam) (bitmap «com») slots pending)
-parts-shaped samIs comIs shape = record { sam = samIs; «com» = comIs; slots = shape .eight; tam = shape .tam }
+pub parts-shaped : {blocks cursor : ℕ} {sam «com» : List ℕ} {slots : List Slot} {reserves : List Reserve} {pending : Pending}
+    → IsBitmap sam → IsBitmap «com» → ShapedSlots slots → ShapedReserves reserves
+    → Shaped (memoryOf blocks cursor (bitmap sam) (bitmap «com») slots reserves pending)
+parts-shaped samIs comIs shape reserves = record { sam = samIs; «com» = comIs; slots = shape .eight; tam = shape .tam; reserves = reserves }

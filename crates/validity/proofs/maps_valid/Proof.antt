@@ -11,8 +11,8 @@ use Rattle.bitmap.specs.Sizes.{slotCount}
 use Rattle.model_types.specs.declared.memory.Slot.{Slot}
 use Rattle.model_types.specs.declared.memory.Pending.{Pending}
 use Rattle.model_types.specs.declared.memory.Memory.{Memory}
-use Rattle.model_types.specs.Memory.{bitmap, memoryOf, slotAt}
-use Rattle.model_types.proofs.Laws.Shape.{Shaped, slots-shaped, slot-read}
+use Rattle.model_types.specs.Memory.{bitmap, memoryOf, slotAt, noReserves}
+use Rattle.model_types.proofs.Laws.Shape.{Shaped, slots-shaped, none-shaped, slot-read}
 use Rattle.validity.proofs.Laws.Answers.{taken-false, left-true}
 use Rattle.validity.proofs.Laws.Slots.{parts-shaped}
 use Rattle.validity.proofs.Laws.Passed.{Passed, passed-none, SlotTaken, idle-taken, active-taken, taken-same, passed-more}
@@ -21,7 +21,7 @@ use Rattle.validity.proofs.maps_valid.Statement.{statement}
 use Rattle.validity.proofs.maps_valid.Tie as tie
 
 abbrev Inv-loop : tie.InvT-loop
-Inv-loop blocks cursor sam «com» slots left₀ s₀ left s = Passed (memoryOf blocks cursor (bitmap sam) (bitmap «com») slots Pending.Nothing) s left
+Inv-loop blocks cursor sam «com» slots left₀ s₀ left s = Passed (memoryOf blocks cursor (bitmap sam) (bitmap «com») slots noReserves Pending.Nothing) s left
 
 abbrev μ-loop : tie.MeasureT-loop
 μ-loop blocks cursor sam «com» slots left₀ s₀ left s = slotCount - s
@@ -30,10 +30,10 @@ abbrev μ-loop : tie.MeasureT-loop
 
 abbrev memory-at : tie.Start Inv-loop μ-loop → Memory
 memory-at c =
-    memoryOf (c .args .blocks) (c .args .cursor) (bitmap (c .args .sam .now)) (bitmap (c .args .«com» .now)) (c .args .t5) Pending.Nothing
+    memoryOf (c .args .blocks) (c .args .cursor) (bitmap (c .args .sam .now)) (bitmap (c .args .«com» .now)) (c .args .t5) noReserves Pending.Nothing
 
 shape-at : (c : tie.Start Inv-loop μ-loop) → Shaped (memory-at c)
-shape-at c = parts-shaped (c .pre .0) (c .pre .1) (slots-shaped (c .args .t5) _ (c .good .1 .1 .1 .1 .0))
+shape-at c = parts-shaped (c .pre .0) (c .pre .1) (slots-shaped (c .args .t5) _ (c .good .1 .1 .1 .1 .0)) none-shaped
 
 abbrev start : tie.At-loop Inv-loop μ-loop → tie.Start Inv-loop μ-loop
 start c = c .before .before .before .before .before
@@ -140,7 +140,7 @@ returns-3 : tie.Need-returns-3 Inv-loop μ-loop
 returns-3 c =
     let at = c .before .before .before in
     let all : at .loop .s ≡ slotCount = omega arith in
-    left-decides (memory-at (start at)) (shape-at (start at)) (at .loop .left) _ refl (volume-at at) (rw all at (at .loop .inv)) (c .is-empty2 .ensures)
+    left-decides (memory-at (start at)) (shape-at (start at)) (at .loop .left) _ refl refl (volume-at at) (rw all at (at .loop .inv)) (c .is-empty2 .ensures)
 
 pub maps-valid-spec : {M : Type 1} → statement M
 maps-valid-spec =

@@ -48,6 +48,21 @@ then-causes (x ∷ xs) ys = go (x .holds) (then-causes xs ys)
     go true ih = refl
     go false ih = ih
 
+-- where none of a list that goes on holds, none held before
+pub none-before : (xs ys : List Cause) → first (xs ++ ys) ≡ none → first xs ≡ none
+unfolding first firstOr
+none-before [] ys e = refl
+none-before (x ∷ xs) ys e = go (x .holds) e (none-before xs ys)
+  where
+    go : (t : Bool) → firstOr t (x .error) (first (xs ++ ys)) ≡ none → (first (xs ++ ys) ≡ none → first xs ≡ none) → firstOr t (x .error) (first xs) ≡ none
+    go true e later = cc
+    go false e later = later e
+
+-- causes that are known only where none held before
+pub then-same : (found : Option Error) (xs ys : List Cause) → (found ≡ none → xs ≡ ys) → thenCauses (verdict found) xs ≡ thenCauses (verdict found) ys
+then-same none xs ys e = ap (thenCauses Verdict.Accepted) (e refl)
+then-same (some error) xs ys e = refl
+
 -- what is refused stays so
 pub then-refused : {t : Bool} (v : Verdict) (causes : List Cause) → t ≡ isAccepted v → t ≡ false → v ≡ thenCauses v causes
 then-refused Verdict.Accepted causes f g = absurd (false≢true (sym g ∙ f))

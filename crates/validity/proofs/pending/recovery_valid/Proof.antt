@@ -10,7 +10,7 @@ use Rattle.bitmap.specs.Sizes.{slotCount}
 use Rattle.model_types.specs.declared.memory.Slot.{Slot}
 use Rattle.model_types.specs.declared.memory.Pending.{Pending}
 use Rattle.model_types.specs.declared.memory.Memory.{Memory}
-use Rattle.model_types.specs.Memory.{bitmap, memoryOf, idleSlot, slotAt, isActive}
+use Rattle.model_types.specs.Memory.{bitmap, memoryOf, noReserves, idleSlot, slotAt, isActive}
 use Rattle.model.specs.Valid.{sameWords}
 use Rattle.model_types.proofs.Laws.Shape.{ShapedSlots, slots-shaped, slots-read}
 use Rattle.validity.proofs.Laws.Answers.{taken-false, left-true}
@@ -28,7 +28,7 @@ abbrev μ-loop : tie.MeasureT-loop
 
 abbrev memory-at : tie.Start Inv-loop μ-loop → Memory
 memory-at c =
-    memoryOf (c .args .blocks) 0 (bitmap (c .args .sam .now)) (bitmap (c .args .«com» .now)) (c .args .t4) (Pending.Recovery (c .args .done) (c .args .due))
+    memoryOf (c .args .blocks) 0 (bitmap (c .args .sam .now)) (bitmap (c .args .«com» .now)) (c .args .t4) noReserves (Pending.Recovery (c .args .done) (c .args .due))
 
 slots-at : (c : tie.Start Inv-loop μ-loop) → ShapedSlots (c .args .t4)
 slots-at c = slots-shaped (c .args .t4) _ (c .good .1 .1 .1 .0)

@@ -1,0 +1,2 @@
+-- Laws of reserve.
+pub mod Reserve

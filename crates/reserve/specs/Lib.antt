@@ -1,0 +1,2 @@
+-- The cause that reserve tests after those of an idle slot.
+pub mod Causes

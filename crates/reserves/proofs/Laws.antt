@@ -1,0 +1,2 @@
+-- Laws of reservations added up one after the other.
+pub mod Sums
