@@ -1,14 +1,15 @@
 // What `show` prints: the fixture, words that are 0 left out of bitmaps and disk.
+mod slots;
+
 ghost use Rattle.printing.specs.Waits.{Waits};
 ghost use Rattle.inspect_state.specs.Sized.{Sized};
-use bitmap::Bitmap;
 use inspect_state::fixture::Fixture;
 use model_types::memory::Memory;
 use model_types::memory::Pending;
-use model_types::memory::SlotState;
 use printing::end_line;
 use printing::put;
 use printing::put_field;
+use slots::put_slots;
 
 // A word with its index, unless it is 0.
 fn put_word(out: &mut [u8], at: usize, index: usize, word: u32) -> usize
@@ -80,40 +81,6 @@ fn put_pending(out: &mut [u8], at: usize, pending: Pending) -> usize
         Pending::Commit { slot, done, due } => put_work(out, at, 1, slot, done, due),
         Pending::Recovery { done, due } => put_work(out, at, 2, 0, done, due),
     }
-}
-
-// The number of a slot's state.
-fn state_code(state: SlotState) -> u32 {
-    match state {
-        SlotState::Idle => 0,
-        SlotState::Open => 1,
-        SlotState::Precommitted => 2,
-    }
-}
-
-// A slot's number and its state.
-fn put_state(out: &mut [u8], at: usize, s: usize, state: SlotState) -> usize
-    requires { ⌜ Waits (now out) at ⌝ }
-    ensures { λ r. ⌜ Waits (now (out .exit)) r ⌝ }
-{
-    let next = put_field(out, at, b"slot ", s as u64);
-    put_field(out, next, b" state=", state_code(state) as u64)
-}
-
-// Each slot on a line.
-fn put_slots(out: &mut [u8], at: usize, memory: Memory) -> usize
-    requires { ⌜ Waits (now out) at ⌝ }
-    ensures { λ r. ⌜ Waits (now (out .exit)) r ⌝ }
-{
-    let mut end = at;
-    let mut s = 0;
-    while s < Bitmap::SLOTS {
-        let own = memory.slots[s];
-        let name = put_state(out, end, s, own.state);
-        end = put_words(out, name, &own.tam.words);
-        s += 1;
-    }
-    end
 }
 
 // The block count, and the line's end.

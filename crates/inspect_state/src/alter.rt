@@ -1,19 +1,22 @@
 // What a further line does. Out of range it alters nothing.
 ghost use Rattle.inspect_state.specs.Sized.{Sized};
+use crate::asked::Further;
 use crate::damage::block_count;
 use crate::damage::com_word;
 use crate::damage::pending_work;
 use crate::damage::sam_word;
 use crate::damage::searched_first;
+use crate::damage::slot_drawn;
+use crate::damage::slot_reservation;
 use crate::damage::slot_state;
 use crate::damage::tam_word;
 use crate::fixture::Fixture;
 use crate::fixture::MAX_LENGTH;
 use crate::fixture::MAX_PLACES;
 use crate::fixture::Step;
-use crate::further::Further;
 use allocate_extent::allocate_extent;
 use commit_cost::commit_cost;
+use reserve::reserve;
 
 // Word I of the disk becomes V.
 fn disk_word(mut fixture: Fixture, index: u32, word: u32) -> Step
@@ -80,6 +83,20 @@ fn ask_cost(fixture: Fixture, slot: u32, count: u32) -> Step
     }
 }
 
+// The call reserve.
+fn set_reservation(fixture: Fixture, slot: u32, blocks: u32) -> Step
+    requires { ⌜ Sized fixture ⌝ }
+    ensures { λ r. ⌜ Sized (r .fixture) ⌝ }
+{
+    let changed = reserve(fixture.memory, slot, blocks);
+    let answer = changed.answer;
+    Step {
+        fixture: fixture.with_memory(changed.memory),
+        answer: answer.number(),
+        value: 0,
+    }
+}
+
 // The call allocate extent, on the places that are lent. The list keeps what it wrote.
 fn grant_extent(fixture: Fixture, slot: u32, count: u32, near: u32) -> Step
     requires { ⌜ Sized fixture ⌝ }
@@ -112,6 +129,8 @@ pub fn alter(line: Further, fixture: Fixture) -> Step
         Further::Com { index, word } => com_word(fixture, index, word),
         Further::Tam { slot, index, word } => tam_word(fixture, slot, index, word),
         Further::State { slot, code } => slot_state(fixture, slot, code),
+        Further::Reservation { slot, blocks } => slot_reservation(fixture, slot, blocks),
+        Further::Drawn { slot, blocks } => slot_drawn(fixture, slot, blocks),
         Further::Pending {
             kind,
             slot,
@@ -121,6 +140,7 @@ pub fn alter(line: Further, fixture: Fixture) -> Step
         Further::List { places } => list_places(fixture, places),
         Further::Cost { slot, count } => ask_cost(fixture, slot, count),
         Further::Extent { slot, count, near } => grant_extent(fixture, slot, count, near),
+        Further::Reserve { slot, blocks } => set_reservation(fixture, slot, blocks),
         Further::Show => fixture.done(),
         Further::Malformed => fixture.malformed(),
     }

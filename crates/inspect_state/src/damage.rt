@@ -4,6 +4,7 @@ use crate::fixture::Fixture;
 use crate::fixture::Step;
 use bitmap::Bitmap;
 use model_types::memory::Pending;
+use model_types::memory::Reserve;
 use model_types::memory::Slot;
 use model_types::memory::SlotState;
 
@@ -109,6 +110,36 @@ pub(crate) fn slot_state(fixture: Fixture, slot: u32, code: u32) -> Step
     let own = memory.slots[s];
     let tam = own.tam;
     memory.slots[s] = Slot::new(state_of(code), tam);
+    fixture.with_memory(memory).done()
+}
+
+// Slot S's reservation becomes V.
+pub(crate) fn slot_reservation(fixture: Fixture, slot: u32, blocks: u32) -> Step
+    requires { ⌜ Sized fixture ⌝ }
+    ensures { λ r. ⌜ Sized (r .fixture) ⌝ }
+{
+    let s = slot as usize;
+    if Bitmap::SLOTS <= s {
+        return fixture.malformed();
+    }
+    let mut memory = fixture.memory;
+    let own = memory.reserves[s];
+    memory.reserves[s] = Reserve::new(blocks, own.drawn);
+    fixture.with_memory(memory).done()
+}
+
+// What slot S's transaction has drawn becomes V.
+pub(crate) fn slot_drawn(fixture: Fixture, slot: u32, blocks: u32) -> Step
+    requires { ⌜ Sized fixture ⌝ }
+    ensures { λ r. ⌜ Sized (r .fixture) ⌝ }
+{
+    let s = slot as usize;
+    if Bitmap::SLOTS <= s {
+        return fixture.malformed();
+    }
+    let mut memory = fixture.memory;
+    let own = memory.reserves[s];
+    memory.reserves[s] = Reserve::new(own.reservation, blocks);
     fixture.with_memory(memory).done()
 }
 

@@ -1,62 +1,9 @@
 // The form of a further line: a word and its numbers, one space between them (docs/TEST-LINES.md).
+use crate::asked::Further;
 use crate::numbers::Numbers;
 use crate::numbers::numbers_from;
 use bytes::scan::find;
 use check::same;
-
-// A further line. Its numbers may be out of range.
-pub enum Further {
-    Disk {
-        index: u32,
-        word: u32,
-    },
-    Length {
-        words: u32,
-    },
-    Blocks {
-        blocks: u32,
-    },
-    Cursor {
-        block: u32,
-    },
-    Sam {
-        index: u32,
-        word: u32,
-    },
-    Com {
-        index: u32,
-        word: u32,
-    },
-    Tam {
-        slot: u32,
-        index: u32,
-        word: u32,
-    },
-    State {
-        slot: u32,
-        code: u32,
-    },
-    Pending {
-        kind: u32,
-        slot: u32,
-        done: u32,
-        due: u32,
-    },
-    List {
-        places: u32,
-    },
-    Cost {
-        slot: u32,
-        count: u32,
-    },
-    Extent {
-        slot: u32,
-        count: u32,
-        near: u32,
-    },
-    Show,
-    Malformed,
-}
 
 // A word with no number.
 fn zero(name: &[u8]) -> Further {
@@ -83,6 +30,38 @@ fn one(name: &[u8], number: u32) -> Further {
     Further::Malformed
 }
 
+// A word with a slot and one number more.
+fn slot_and(name: &[u8], slot: u32, number: u32) -> Further {
+    if same(name, b"state") {
+        return Further::State { slot, code: number };
+    }
+    if same(name, b"reservation") {
+        return Further::Reservation {
+            slot,
+            blocks: number,
+        };
+    }
+    if same(name, b"drawn") {
+        return Further::Drawn {
+            slot,
+            blocks: number,
+        };
+    }
+    if same(name, b"cost") {
+        return Further::Cost {
+            slot,
+            count: number,
+        };
+    }
+    if same(name, b"reserve") {
+        return Further::Reserve {
+            slot,
+            blocks: number,
+        };
+    }
+    Further::Malformed
+}
+
 // A word with two numbers.
 fn two(name: &[u8], first: u32, second: u32) -> Further {
     if same(name, b"disk") {
@@ -103,19 +82,7 @@ fn two(name: &[u8], first: u32, second: u32) -> Further {
             word: second,
         };
     }
-    if same(name, b"state") {
-        return Further::State {
-            slot: first,
-            code: second,
-        };
-    }
-    if same(name, b"cost") {
-        return Further::Cost {
-            slot: first,
-            count: second,
-        };
-    }
-    Further::Malformed
+    slot_and(name, first, second)
 }
 
 // A word with three numbers.

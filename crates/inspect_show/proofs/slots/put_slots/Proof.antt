@@ -3,8 +3,8 @@ use Prim.Native.Nat.{_≤_, _-_}
 use Rattle.bitmap.specs.Sizes.{slotCount}
 use Rattle.printing.specs.Waits.{Waits}
 use borrow.Author.Needs.{needs}
-use Rattle.inspect_show.proofs.put_slots.Statement.{statement}
-use Rattle.inspect_show.proofs.put_slots.Tie as tie
+use Rattle.inspect_show.proofs.slots.put_slots.Statement.{statement}
+use Rattle.inspect_show.proofs.slots.put_slots.Tie as tie
 
 abbrev Inv-loop : tie.InvT-loop
 Inv-loop out₀ at memory end₀ s₀ out end s = (s ≤ slotCount) × Waits out end
@@ -23,6 +23,15 @@ element-copy-out-own c = search needs
 
 put-state-requires : tie.Need-put-state-requires Inv-loop μ-loop
 put-state-requires c κs = search needs
+
+mul-put-reserve : tie.Need-mul-put-reserve Inv-loop μ-loop
+mul-put-reserve c = search needs
+
+element-copy-out-put-reserve : tie.Need-element-copy-out-put-reserve Inv-loop μ-loop
+element-copy-out-put-reserve c = search needs
+
+put-reserve-requires : tie.Need-put-reserve-requires Inv-loop μ-loop
+put-reserve-requires c κs = search needs
 
 put-words-requires : tie.Need-put-words-requires Inv-loop μ-loop
 put-words-requires c κs = search needs
@@ -52,6 +61,9 @@ put-slots-spec =
     mul-own
     element-copy-out-own
     put-state-requires
+    mul-put-reserve
+    element-copy-out-put-reserve
+    put-reserve-requires
     put-words-requires
     add-s
     loop-less
