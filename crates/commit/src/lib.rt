@@ -28,7 +28,8 @@ fn stores_due(sam: &[u32; 128], tam: &[u32; 128]) -> u32
     Pending::stores_for(words)
 }
 
-// Commits a precommitted slot. Refused, the memory stays. Its TAM is the SAM to be.
+// Commits a precommitted slot. Refused, the memory stays. Its TAM is the SAM to be. One that changes no word took nothing, so it
+// has drawn nothing that could be used up.
 pub fn commit(mut memory: Memory, slot: u32) -> Stored
     ensures answers { λ r. ⌜ r .answer ≡ commitAnswer memory slot ⌝ }
     ensures leaves { λ r. ⌜ r .memory ≡ commitMemory memory slot ⌝ }

@@ -1,4 +1,4 @@
--- The causes that commit cost tests after those of an open slot, in document 01's order, told by parts of a memory.
+-- The causes that commit cost tests after those of an open slot, in number order, told by parts of a memory.
 use Prim.Native.Nat.{ℕ, _-_}
 use mathlib.Core.List.{List, [], _∷_}
 use lib.ListN.{length}

@@ -10,7 +10,7 @@ use validity::Numbers;
 use validity::valid;
 use verdicts::ready::open;
 
-// Rolls back an open slot. Refused, the memory stays.
+// Rolls back an open slot, and puts back what it has drawn. Refused, the memory stays.
 pub fn drop(mut memory: Memory, slot: u32) -> Changed
     ensures answers { λ r. ⌜ r .answer ≡ dropAnswer memory slot ⌝ }
     ensures leaves { λ r. ⌜ r .memory ≡ dropMemory memory slot ⌝ }

@@ -1,4 +1,4 @@
-// The allocator's memory: three kinds of bitmap and the pending work.
+// The allocator's memory: three kinds of bitmap, the cursor, what is reserved, and the pending work.
 ghost use mathlib.Core.Path.{_≡_};
 ghost use Prim.Native.Nat.{_≤_};
 ghost use Rattle.bitmap.specs.Sizes.{bitmapWords, IsSlot};

@@ -10,7 +10,7 @@ use validity::Numbers;
 use validity::valid;
 use verdicts::ready::precommitted;
 
-// Rolls back a precommitted slot. Refused, the memory stays.
+// Rolls back a precommitted slot, and puts back what it has drawn. Refused, the memory stays.
 pub fn revoke(mut memory: Memory, slot: u32) -> Changed
     ensures answers { λ r. ⌜ r .answer ≡ revokeAnswer memory slot ⌝ }
     ensures leaves { λ r. ⌜ r .memory ≡ revokeMemory memory slot ⌝ }

@@ -24,15 +24,15 @@ pub mod bits;
 pub mod fit;
 pub mod pending;
 
-// The numbers of a memory: all of it but for the bitmaps and the pending work.
+// The numbers of a memory: its block count, its cursor and what is reserved.
 pub struct Numbers {
     pub blocks: u32,
     pub cursor: u32,
     pub reserves: [Reserve; 8],
 }
 
-// Whether the bitmaps are those of a valid memory, whatever is reserved. No slot's bitmap is looked at for bits from the block count on: they
-// would be touches that aren't left.
+// Whether the bitmaps are those of a valid memory, whatever is reserved. No slot's bitmap is looked at for bits from the block count
+// on: they would be touches that aren't left.
 pub fn maps_valid<'a>(
     blocks: u32,
     cursor: u32,

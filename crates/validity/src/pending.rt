@@ -39,8 +39,8 @@ pub fn commit_valid(
     done < due
 }
 
-// During a recovery all slots are idle, COM equals SAM, and there are 2 to W + 1 stores. Neither the cursor nor what is reserved plays a
-// part.
+// During a recovery all slots are idle, COM equals SAM, and there are 2 to W + 1 stores. Neither the cursor nor what is reserved
+// plays a part.
 pub fn recovery_valid<'a>(
     blocks: u32,
     sam: &'a [u32; 128],

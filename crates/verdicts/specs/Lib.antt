@@ -1,3 +1,3 @@
--- Verdicts, and the causes that the eight transaction calls and commit cost test first.
+-- Verdicts, and the causes that the eight transaction calls, commit cost and reserve test first.
 pub mod Verdicts
 pub mod Ready

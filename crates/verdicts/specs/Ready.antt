@@ -1,5 +1,5 @@
--- The causes with which the lists of the eight transaction calls and of commit cost start, in document 01's order, told by parts
--- of a memory: whether it is valid, its pending work, the slot's number and its state.
+-- The causes with which the lists of the eight transaction calls, of commit cost and of reserve start, in document 01's order, told
+-- by parts of a memory: whether it is valid, its pending work, the slot's number and its state.
 use Prim.Native.Nat.{ℕ}
 use mathlib.Core.Bool.{Bool, not}
 use mathlib.Core.List.{List, [], _∷_, _++_}
@@ -19,11 +19,11 @@ readyCauses sound pending s =
     ∷ not (slotInRange s) ⇒ SlotRange
     ∷ []
 
--- and 11: start
+-- and 11: start and reserve
 abbrev pub idleCauses : Bool → Pending → ℕ → SlotState → List Cause
 idleCauses sound pending s state = readyCauses sound pending s ++ (isActive state ⇒ SlotBusy ∷ [])
 
--- 1, 8, 10 and 12: all but start
+-- 1, 8, 10 and 12: all but start and reserve
 abbrev pub activeCauses : Bool → Pending → ℕ → SlotState → List Cause
 activeCauses sound pending s state = readyCauses sound pending s ++ (not (isActive state) ⇒ SlotIdle ∷ [])
 

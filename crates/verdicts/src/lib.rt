@@ -1,3 +1,4 @@
-// Whether a call is refused: what a call answers with, and the causes that the eight transaction calls and commit cost test first.
+// Whether a call is refused: what a call answers with, and the causes that the eight transaction calls, commit cost and reserve test
+// first.
 pub mod ready;
 pub mod verdict;

@@ -1,5 +1,5 @@
-// What the eight transaction calls and commit cost test first: whether the memory is valid, its pending work, the slot's number
-// and its state.
+// What the eight transaction calls, commit cost and reserve test first: whether the memory is valid, its pending work, the slot's
+// number and its state.
 ghost use mathlib.Core.Path.{_≡_};
 ghost use Rattle.model.specs.First.{first};
 ghost use Rattle.verdicts.specs.Verdicts.{verdict};
@@ -19,7 +19,7 @@ fn ready(sound: bool, pending: Pending, slot: u32) -> Verdict
     settled.unless(!Bitmap::slot_in_range(slot), Error::SlotRange)
 }
 
-// Those, and 11: start.
+// Those, and 11: start and reserve.
 pub fn idle(sound: bool, pending: Pending, slot: u32, state: SlotState) -> Verdict
     ensures { λ r. ⌜ r ≡ verdict (first (idleCauses sound pending slot state)) ⌝ }
 {
@@ -27,7 +27,7 @@ pub fn idle(sound: bool, pending: Pending, slot: u32, state: SlotState) -> Verdi
     earlier.unless(state.is_active(), Error::SlotBusy)
 }
 
-// 1, 8, 10 and 12: all but start.
+// 1, 8, 10 and 12: all but start and reserve.
 fn active(sound: bool, pending: Pending, slot: u32, state: SlotState) -> Verdict
     ensures { λ r. ⌜ r ≡ verdict (first (activeCauses sound pending slot state)) ⌝ }
 {

@@ -4,13 +4,10 @@ use native.Mathlib.Omega.{arith}
 use mathlib.Core.Path.{_≡_, refl, ap, ap₂, _∙_}
 use mathlib.Core.Logic.{⊎-elim}
 use mathlib.Core.Option.{Option, none}
-use mathlib.Core.List.{List, _++_}
+use mathlib.Core.List.{_++_}
 use lib.ListN.{length, getD, set, drop}
-use Rattle.bitmap.specs.declared.Bitmap.{Bitmap}
 use Rattle.model_types.specs.declared.error.Error.{Error}
 use Rattle.model_types.specs.declared.answer.GrantAnswer.{GrantAnswer}
-use Rattle.model_types.specs.declared.memory.Slot.{Slot}
-use Rattle.model_types.specs.declared.memory.Memory.{Memory}
 use Rattle.model_types.specs.Answers.{granted}
 use Rattle.model_types.specs.Memory.{noReserve}
 use Rattle.model.specs.Reserves.{othersReserved, drawing}
@@ -131,8 +128,7 @@ draw-requires c κs =
     let then = c .before .before .before .before .before .before .before .before in
     let memory = entered (opened (then .before)) .args .memory in
     let parts = valid-parts memory (told then .ready .is-valid) in
-    let at = c .before .before .before .before .before .before .before .before .before .before .before .before .before .before .before .before .before .before .before .before .slot-index in
-    (
+    let at = c .before .before .before .before .before .before .before .before .before .before .before .before .before .before .before .before .before .before .before .before .slot-index in (
       at .ensures .below,
       (record { reservation = few-reserved memory (at .result) parts; drawn = few-drawn memory (at .result) parts (at .ensures .below) }, told then .few),
     )

@@ -175,8 +175,7 @@ draw-requires c κs =
     let t = told then in
     let memory = entered (opened (requested (tested (then .before)))) .args .memory in
     let parts = valid-parts memory (t .ready .is-valid) in
-    let at = slot-at then in
-    (
+    let at = slot-at then in (
       at .below,
       (record { reservation = few-reserved memory _ parts; drawn = few-drawn memory _ parts (at .below) }, t .few),
     )

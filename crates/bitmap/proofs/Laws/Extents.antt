@@ -43,7 +43,6 @@ distinct-adjoining p (suc n) = (go (member p (adjoining (suc p) n)) refl, distin
     go true e = absurd (omega (arith, member-adjoining p (suc p) n e .0))
     go false e = refl
 
-
 -- ---- starts
 
 module _ (test : ℕ → Bool) (m n b : ℕ) where

@@ -4,13 +4,13 @@ use native.Mathlib.Nat.{add-zero}
 use native.Mathlib.Omega.{arith}
 use mathlib.Core.Path.{_≡_, sym, ap, _∙_}
 use mathlib.Core.Logic.{⊎-elim}
-use mathlib.Core.Bool.{Bool, true}
+use mathlib.Core.Bool.{true}
 use mathlib.Core.Option.{Option, none}
 use mathlib.Core.List.{List, _++_}
 use lib.ListN.{length, getD, drop, length-append, length-drop, List·getD-append}
 use lib.Seq.{getD-append-add, getD-drop}
 use borrow.Author.Tests.{lt-leb, eqb-true, ne-eqb}
-use Rattle.bitmap.specs.Blocks.{member, isAvailable}
+use Rattle.bitmap.specs.Blocks.{member}
 use Rattle.bitmap.specs.Extents.{isStart, nearest}
 use Rattle.bitmap.proofs.Laws.Extents.{start-within, start-holds, start-of, starts-are, starts-all, nearest-member, nearest-least, nearest-lower, distance-same, distance-zero, member-some, member-adjoining, length-adjoining, distinct-adjoining, getD-adjoining}
 use Rattle.bitmap.proofs.Laws.Blocks.{Distinct}
@@ -182,8 +182,9 @@ finds-extent memory is-valid s count near list eligible below c extent enough =
     let accepted : allocateExtentError memory s count near list ≡ none =
     none-append _ _ (eligible-open memory s count list is-valid eligible)
     ∙ eligible-room memory s count list is-valid eligible _
-    ∙ none-first _
-    (lt-leb (memory .blocks) near below,
-    (ne-eqb (length starts) 0 (λ z. omega (arith, found, z)), (spared-others memory s count (omega (arith, enough)), tt))) in
+    ∙ none-first _ (
+      lt-leb (memory .blocks) near below,
+      (ne-eqb (length starts) 0 (λ z. omega (arith, found, z)), (spared-others memory s count (omega (arith, enough)), tt)),
+    ) in
     let b : ℕ = getD (nearestExtent memory count near) 0 0 in
     (b, ap (λ (e : Option Error). granted e b) accepted)

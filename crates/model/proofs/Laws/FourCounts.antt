@@ -3,14 +3,14 @@ use Prim.Native.Nat.{ℕ, _-_}
 use native.Mathlib.Omega.{arith}
 use mathlib.Core.Path.{_≡_, refl, ap, sym, _∙_}
 use mathlib.Core.Logic.{⊎-elim}
-use mathlib.Core.Bool.{Bool, true, not, false≢true}
+use mathlib.Core.Bool.{true, not, false≢true}
 use mathlib.Core.Option.{none, some}
 use mathlib.Core.List.{List, [], _∷_}
 use lib.ListN.{length}
 use borrow.Author.Tests.{le-leb, lt-ltb, le-ltb}
 use Rattle.bitmap.specs.Sizes.{maxCount, countInRange}
 use Rattle.bitmap.proofs.Laws.Count.{allocated-parts, four-kinds}
-use Rattle.model.specs.Types.{Memory, Error, MemoryInvalid, CountRange, ListShort, TooFewAvailable, ReservedForOthers}
+use Rattle.model.specs.Types.{Memory, MemoryInvalid, CountRange, ListShort, TooFewAvailable, ReservedForOthers}
 use Rattle.model_types.specs.Answers.{granted, counted}
 use Rattle.model.specs.First.{Cause, first, firstOr, _⇒_}
 use Rattle.model.specs.Valid.{valid}
@@ -92,14 +92,16 @@ available-can-be-had memory is-valid =
           let few = too-few memory s count list (grant-refused (allocateError memory s count list) _ TooFewAvailable refused) in
           false≢true (sym (le-ltb (length (available memory)) count enough) ∙ few);
       granted = λ s count list eligible enough.
-          rw
-          (decides memory s count list is-valid eligible,
-          le-ltb (length (available memory)) count (omega (arith, enough)),
-          le-ltb (length (available memory) - count) (othersReserved (memory .reserves) s) (omega (arith, enough)));
+          rw (
+            decides memory s count list is-valid eligible,
+            le-ltb (length (available memory)) count (omega (arith, enough)),
+            le-ltb (length (available memory) - count) (othersReserved (memory .reserves) s) (omega (arith, enough)),
+          );
       reserved = λ s count list eligible enough few.
-          rw
-          (decides memory s count list is-valid eligible,
-          le-ltb (length (available memory)) count enough,
-          lt-ltb (length (available memory) - count) (othersReserved (memory .reserves) s) (omega (arith, enough, few)));
+          rw (
+            decides memory s count list is-valid eligible,
+            le-ltb (length (available memory)) count enough,
+            lt-ltb (length (available memory) - count) (othersReserved (memory .reserves) s) (omega (arith, enough, few)),
+          );
       always = λ s count list eligible few. rw (decides memory s count list is-valid eligible, lt-ltb (length (available memory)) count few);
     }

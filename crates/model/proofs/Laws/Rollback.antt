@@ -11,7 +11,6 @@ use Rattle.bitmap.specs.Majority.{majority}
 use Rattle.bitmap.proofs.Laws.Bits.{bit-below, bit-from, below-or-from, noBits-bit, noBits-bitmapOf}
 use Rattle.bitmap.specs.Blocks.{isAvailable}
 use Rattle.bitmap.specs.Sizes.{slotCount}
-use Rattle.bitmap.proofs.Laws.Blocks.{available-free, available-unused}
 use Rattle.bitmap.proofs.Laws.Majority.{rollback-untouched, rollback-touched}
 use Rattle.model.specs.Types.{Nothing, Reserve, Memory}
 use Rattle.model_types.specs.Memory.{slotAt, reserveAt, noReserve, idleSlot, isActive, samBit, comBit, tamBit}

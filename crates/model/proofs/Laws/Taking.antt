@@ -18,7 +18,7 @@ use Rattle.bitmap.proofs.Laws.Ahead.{round-distinct}
 use Rattle.bitmap.proofs.Laws.Count.{count-disjoint, count-distinct}
 use Rattle.bitmap.proofs.Laws.Round.{member-round, round-length, after-last-lt, available-without}
 use Rattle.model.specs.Types.{Bitmap, Nothing, Slot, Reserve, Memory}
-use Rattle.model_types.specs.Memory.{slotAt, reserveAt, noReserve, withTam, isActive, samBit, comBit, tamBit, withCom, withSlot, withReserves, volumeBitmap}
+use Rattle.model_types.specs.Memory.{slotAt, reserveAt, noReserve, withTam, isActive, samBit, comBit, tamBit, withCom, volumeBitmap}
 use Rattle.model.specs.Reserves.{drawing}
 use Rattle.model.specs.Valid.{touched, took, takenBlocks}
 use Rattle.model.specs.Available.{available}
@@ -153,10 +153,11 @@ module _ (memory : Memory) (s : ℕ) (blocks : List ℕ) (all : AllAvailable mem
         count-distinct blocks (memory .blocks) once (λ b e. all b e .below),
         count-disjoint (took memory (slotAt memory s)) (λ b. member b blocks) (took memory (markedSlot memory s blocks)) (memory .blocks)
             (λ b inside.
-            rw
-            (took-is memory (slotAt memory s) b,
-            took-is memory (markedSlot memory s blocks) b,
-            bit-below (memory .blocks) (λ x. member x blocks || tamBit (slotAt memory s) x) b (parts .few-blocks) inside)
+            rw (
+              took-is memory (slotAt memory s) b,
+              took-is memory (markedSlot memory s blocks) b,
+              bit-below (memory .blocks) (λ x. member x blocks || tamBit (slotAt memory s) x) b (parts .few-blocks) inside,
+            )
             (go b inside (member b blocks) refl (tamBit (slotAt memory s) b) refl (samBit memory b) refl)),
       )
     where

@@ -108,7 +108,7 @@ returns c =
       tested .before .answer .ensures ∙ ap done (error-of error (verdict-is tested)),
       ⊎-elim
           (λ (accepted, _, _, _, _, _, rolled, drew, com-is, slots-are, reserves-are).
-                    rolled-memory (a .memory) _ (a .slot) (shape-at (entered tested)) (told (record { before = tested; if1 = accepted })) looked
+          rolled-memory (a .memory) _ (a .slot) (shape-at (entered tested)) (told (record { before = tested; if1 = accepted })) looked
           (rolled .ensures .0) (rolled .ensures .1) com-is slots-are (reserves-are ∙ drew .ensures)
           ∙ accepted-leaves error (rolledBack (a .memory) (a .slot)) (a .memory) (verdict-is tested) test (accepted .taken))
           (λ (refused, com-is, slots-are, reserves-are).

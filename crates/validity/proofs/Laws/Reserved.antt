@@ -1,7 +1,7 @@
 -- What is reserved against `valid`: with nothing reserved the memory is valid but for that, and the two tests decide.
 use Prim.Native.Nat.{ℕ, zero, suc, _≤_}
 use native.Mathlib.Omega.{arith}
-use mathlib.Core.Path.{_≡_, refl, sym, ap, ap₂, _∙_}
+use mathlib.Core.Path.{_≡_, refl, sym, ap, _∙_}
 use mathlib.Core.Bool.{Bool, true, false, not, _&&_, _||_, and-comm, false≢true}
 use mathlib.Core.List.{List, [], _∷_}
 use lib.ListN.{length, getD}
@@ -9,7 +9,7 @@ use lib.Dec.{leb, ltb}
 use borrow.Author.Tests.{le-leb, ltb-false}
 use Rattle.bitmap.specs.Sizes.{maxBlocks, slotCount}
 use Rattle.bitmap.specs.Bits.{bit}
-use Rattle.bitmap.specs.Blocks.{allBelow, availableBlocks, isAllocating, allocatingBlocks, from}
+use Rattle.bitmap.specs.Blocks.{availableBlocks, isAllocating, allocatingBlocks, from}
 use Rattle.bitmap.proofs.Laws.Bits.{noBits-bit}
 use Rattle.bitmap.proofs.Laws.Blocks.{allBelow-at, allBelow-all, from-same}
 use Rattle.bitmap.proofs.Laws.Count.{count-past}
@@ -19,13 +19,12 @@ use Rattle.model_types.specs.declared.memory.Memory.{Memory}
 use Rattle.model_types.specs.Memory.{slotAt, reserveAt, samBit, noReserve, noReserves, withReserves}
 use Rattle.model.specs.Available.{available}
 use Rattle.model.specs.Reserves.{totalReserved}
-use Rattle.model.specs.Valid.{took, touched, takenBlocks, reservationsFit, drawnFit, valid}
-use Rattle.model.proofs.Laws.Writes.{and-both, and-first, and-second}
-use Rattle.model.proofs.Laws.Valid.{ReservesFit, ValidParts, valid-parts, parts-valid, slot-below, fit-parts, parts-fit}
+use Rattle.model.specs.Valid.{took, takenBlocks, reservationsFit, drawnFit, valid}
+use Rattle.model.proofs.Laws.Valid.{ValidParts, valid-parts, parts-valid, slot-below, fit-parts, parts-fit}
 use Rattle.model.proofs.Laws.Fit.{took-is, none-fits}
 use Rattle.model.proofs.Laws.Touches.{reserves-valid}
 use Rattle.reserves.specs.Sums.{anyDrawn}
-use Rattle.validity.specs.Fit.{drawnFitsAt, drawnFits}
+use Rattle.validity.specs.Fit.{drawnFits}
 use Rattle.validity.proofs.Laws.Slots.{bool-ext, not-true-false}
 
 module _ (memory : Memory) (quiet : memory .pending ≡ Pending.Nothing) where

@@ -1,8 +1,6 @@
 -- By whichever is smaller, the reservation or the count.
-use Prim.Native.Nat.{_+_, _-_}
-use native.Mathlib.Nat.{sub-eq-zero-of-le}
 use native.Mathlib.Omega.{arith}
-use mathlib.Core.Path.{_≡_, sym, ap₂, _∙_}
+use mathlib.Core.Path.{ap₂, _∙_}
 use borrow.Author.Needs.{needs}
 use Rattle.model_types.specs.Memory.{reserveOf}
 use Rattle.model.specs.Reserves.{drawing}

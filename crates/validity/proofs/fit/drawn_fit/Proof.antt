@@ -1,17 +1,15 @@
 -- The loop's invariant: the slots passed have drawn no more than they took.
 use Prim.Native.Nat.{ℕ, _-_, _≤_, _<_}
 use native.Mathlib.Omega.{arith}
-use mathlib.Core.Path.{_≡_, sym, ap, _∙_}
+use mathlib.Core.Path.{_≡_, sym, _∙_}
 use mathlib.Core.Bool.{true, false≢true}
-use lib.ListN.{length, getD}
-use lib.Dec.{leb}
+use lib.ListN.{getD}
 use borrow.Author.Tests.{not-true, not-false}
 use borrow.Author.Count.{below-none, below-more}
-use Rattle.bitmap.specs.Sizes.{maxBlocks, slotCount}
-use Rattle.bitmap.specs.Blocks.{allocatingBlocks}
+use Rattle.bitmap.specs.Sizes.{slotCount}
 use Rattle.bitmap.proofs.Laws.Blocks.{allBelow-at, allBelow-all}
 use Rattle.model_types.specs.declared.memory.Slot.{Slot}
-use Rattle.model_types.specs.Memory.{idleSlot, noReserve}
+use Rattle.model_types.specs.Memory.{idleSlot}
 use Rattle.model_types.proofs.Laws.Shape.{ShapedSlots, slots-shaped, slots-read}
 use Rattle.validity.specs.Fit.{drawnFitsAt, drawnFits}
 use Rattle.validity.proofs.Laws.Slots.{not-true-false}
