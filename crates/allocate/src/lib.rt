@@ -22,7 +22,7 @@ use validity::valid;
 use verdicts::ready::open;
 use verdicts::verdict::Verdict;
 
-// After the causes of an open slot, 15, 16, 17 and 24. The others' reservations add up to `reserved`.
+// After the causes of an open slot, 15, 16, 17 and 24. So many blocks are kept for the others.
 fn enough<'a>(
     earlier: Verdict,
     blocks: u32,
@@ -30,12 +30,12 @@ fn enough<'a>(
     com: &'a [u32; 128],
     count: u32,
     list: &[u32],
-    reserved: u64,
+    kept: u64,
 ) -> Verdict
     requires { ⌜ IsBitmap (now sam) ⌝ }
     requires { ⌜ IsBitmap (now «com») ⌝ }
     requires { ⌜ (isAccepted earlier ≡ true → blocks ≤ maxBlocks) ⌝ }
-    ensures { λ r. ⌜ r ≡ thenCauses earlier (countCauses blocks (now (sam .entry)) (now («com» .entry)) count (now (list .entry)) reserved) ⌝ }
+    ensures { λ r. ⌜ r ≡ thenCauses earlier (countCauses blocks (now (sam .entry)) (now («com» .entry)) count (now (list .entry)) kept) ⌝ }
 {
     if !earlier.is_accepted() {
         return earlier;
@@ -45,7 +45,7 @@ fn enough<'a>(
     let roomy = counted.unless(list.len() < count as usize, Error::ListShort);
     let enough = roomy.unless(available < count, Error::TooFewAvailable);
     enough.unless(
-        leaves_fewer(available, count, reserved),
+        leaves_fewer(available, count, kept),
         Error::ReservedForOthers,
     )
 }
@@ -74,16 +74,8 @@ pub fn allocate(mut memory: Memory, slot: u32, count: u32, list: &mut [u32]) -> 
     let mut own = slots[at];
     let state = own.state;
     let earlier = open(sound, pending, slot, state);
-    let reserved = others(reserves, at);
-    let verdict = enough(
-        earlier,
-        blocks,
-        &sam.words,
-        &com.words,
-        count,
-        list,
-        reserved,
-    );
+    let kept = others(reserves, at);
+    let verdict = enough(earlier, blocks, &sam.words, &com.words, count, list, kept);
     let mut answer = verdict.grant(0);
     if verdict.is_accepted() {
         first = take_met(

@@ -56,29 +56,30 @@ fn search<'a>(
     blocks
 }
 
-// After 22, 24. The others' reservations add up to `reserved`; if they have none, no block is counted.
+// After 22, 24. So many blocks are kept for the others; if there are none, no block
+// is counted.
 fn spare<'a>(
     earlier: Verdict,
     blocks: u32,
     sam: &'a [u32; 128],
     com: &'a [u32; 128],
     count: u32,
-    reserved: u64,
+    kept: u64,
 ) -> Verdict
     requires { ⌜ IsBitmap (now sam) ⌝ }
     requires { ⌜ IsBitmap (now «com») ⌝ }
     requires { ⌜ (isAccepted earlier ≡ true → blocks ≤ maxBlocks) ⌝ }
-    ensures { λ r. ⌜ r ≡ thenCauses earlier (spareCauses blocks (now (sam .entry)) (now («com» .entry)) count reserved) ⌝ }
+    ensures { λ r. ⌜ r ≡ thenCauses earlier (spareCauses blocks (now (sam .entry)) (now («com» .entry)) count kept) ⌝ }
 {
     if !earlier.is_accepted() {
         return earlier;
     }
-    if reserved == 0 {
+    if kept == 0 {
         return Verdict::Accepted;
     }
     let available = count_available(sam, com, blocks);
     Verdict::Accepted.unless(
-        leaves_fewer(available, count, reserved),
+        leaves_fewer(available, count, kept),
         Error::ReservedForOthers,
     )
 }
@@ -116,8 +117,8 @@ pub fn allocate_extent(
     let request = request(earlier, blocks, count, near, list);
     let start = search(request, &sam.words, &com.words, blocks, count, near);
     let found = request.unless(start == blocks, Error::NoExtent);
-    let reserved = others(reserves, at);
-    let verdict = spare(found, blocks, &sam.words, &com.words, count, reserved);
+    let kept = others(reserves, at);
+    let verdict = spare(found, blocks, &sam.words, &com.words, count, kept);
     let mut answer = verdict.grant(0);
     if verdict.is_accepted() {
         take_extent(&mut com.words, &mut own.tam.words, list, start, count);

@@ -22,19 +22,19 @@ use validity::valid;
 use verdicts::ready::open;
 use verdicts::verdict::Verdict;
 
-// After the causes of an open slot, 15 for a count above 64, 17 and 24. The others' reservations add up to `reserved`.
+// After the causes of an open slot, 15 for a count above 64, 17 and 24. So many blocks are kept for the others.
 fn enough<'a>(
     earlier: Verdict,
     blocks: u32,
     sam: &'a [u32; 128],
     com: &'a [u32; 128],
     count: u32,
-    reserved: u64,
+    kept: u64,
 ) -> Verdict
     requires { ⌜ IsBitmap (now sam) ⌝ }
     requires { ⌜ IsBitmap (now «com») ⌝ }
     requires { ⌜ (isAccepted earlier ≡ true → blocks ≤ maxBlocks) ⌝ }
-    ensures { λ r. ⌜ r ≡ thenCauses earlier (costCauses blocks (now (sam .entry)) (now («com» .entry)) count reserved) ⌝ }
+    ensures { λ r. ⌜ r ≡ thenCauses earlier (costCauses blocks (now (sam .entry)) (now («com» .entry)) count kept) ⌝ }
 {
     if !earlier.is_accepted() {
         return earlier;
@@ -43,7 +43,7 @@ fn enough<'a>(
     let counted = Verdict::Accepted.unless(Bitmap::COUNT < count, Error::CountRange);
     let enough = counted.unless(available < count, Error::TooFewAvailable);
     enough.unless(
-        leaves_fewer(available, count, reserved),
+        leaves_fewer(available, count, kept),
         Error::ReservedForOthers,
     )
 }
@@ -86,8 +86,8 @@ pub fn commit_cost(memory: Memory, slot: u32, count: u32) -> Stored
     let own = slots[at];
     let state = own.state;
     let earlier = open(sound, pending, slot, state);
-    let reserved = others(reserves, at);
-    let verdict = enough(earlier, blocks, &sam.words, &com.words, count, reserved);
+    let kept = others(reserves, at);
+    let verdict = enough(earlier, blocks, &sam.words, &com.words, count, kept);
     let mut answer = verdict.stores(0);
     if verdict.is_accepted() {
         let words = Bitmap::words_for(blocks);

@@ -19,29 +19,26 @@ use validity::valid;
 use verdicts::ready::idle;
 use verdicts::verdict::Verdict;
 
-// After the causes of an idle slot, 23. The others' reservations add up to `reserved`.
+// After the causes of an idle slot, 23. So many blocks are kept for the others.
 fn room<'a>(
     earlier: Verdict,
     blocks: u32,
     sam: &'a [u32; 128],
     com: &'a [u32; 128],
-    reserved: u64,
+    kept: u64,
     reservation: u32,
 ) -> Verdict
     requires { ⌜ IsBitmap (now sam) ⌝ }
     requires { ⌜ IsBitmap (now «com») ⌝ }
     requires { ⌜ (isAccepted earlier ≡ true → blocks ≤ maxBlocks) ⌝ }
-    requires { ⌜ reserved < 2 ^ 36 ⌝ }
-    ensures { λ r. ⌜ r ≡ thenCauses earlier (roomCauses blocks (now (sam .entry)) (now («com» .entry)) reserved reservation) ⌝ }
+    requires { ⌜ kept < 2 ^ 36 ⌝ }
+    ensures { λ r. ⌜ r ≡ thenCauses earlier (roomCauses blocks (now (sam .entry)) (now («com» .entry)) kept reservation) ⌝ }
 {
     if !earlier.is_accepted() {
         return earlier;
     }
     let available = count_available(sam, com, blocks) as u64;
-    Verdict::Accepted.unless(
-        available < reserved + reservation as u64,
-        Error::OverReserved,
-    )
+    Verdict::Accepted.unless(available < kept + reservation as u64, Error::OverReserved)
 }
 
 // Sets a slot's reservation. Refused, the memory stays.
@@ -67,15 +64,8 @@ pub fn reserve(mut memory: Memory, slot: u32, reservation: u32) -> Changed
     let own = slots[at];
     let state = own.state;
     let earlier = idle(sound, pending, slot, state);
-    let reserved = others(reserves, at);
-    let verdict = room(
-        earlier,
-        blocks,
-        &sam.words,
-        &com.words,
-        reserved,
-        reservation,
-    );
+    let kept = others(reserves, at);
+    let verdict = room(earlier, blocks, &sam.words, &com.words, kept, reservation);
     let answer = verdict.answer();
     if verdict.is_accepted() {
         let old = reserves[at];

@@ -89,7 +89,7 @@ pub fn valid<'a>(
     if !reservations_fit(blocks, sam, com, reserves) {
         return false;
     }
-    // The slots are copied into the test, so they are only if there is something to test.
+    // Handing the slots on copies them, so it is done only if there is something to test.
     if any_drawn(reserves) {
         if !drawn_fit(sam, slots, reserves) {
             return false;

@@ -55,7 +55,7 @@ returns-2 c =
     (then-tested _ _ _ (counted .ensures) none-tested (ap not (in-range .ensures)))
     refl)
     (ap (λ (n : ℕ). ltb n (a .count)) (available .ensures)))
-    (fewer .ensures ∙ ap (λ (n : ℕ). ltb (n - a .count) (a .reserved)) (available .ensures)))
+    (fewer .ensures ∙ ap (λ (n : ℕ). ltb (n - a .count) (a .kept)) (available .ensures)))
 
 pub enough-spec : {M : Type 1} → statement M
 enough-spec =

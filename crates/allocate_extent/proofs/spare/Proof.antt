@@ -25,7 +25,7 @@ returns-2 c =
     let a = past .before .before .args in
     let left = length (availableBlocks (a .blocks) (a .sam .now) (a .«com» .now)) - a .count in
     then-accepted (a .earlier) _ (past .before .is-accepted .ensures) (not-false _ (past .if1 .left))
-    (rw (le-ltb left (a .reserved) (omega (arith, c .if2 .taken))))
+    (rw (le-ltb left (a .kept) (omega (arith, c .if2 .taken))))
 
 count-available-requires : tie.Need-count-available-requires
 count-available-requires c κs =
@@ -46,7 +46,7 @@ returns-3 c =
     let past = c .before .before .before .before in
     let a = past .before .before .args in
     then-accepted (a .earlier) _ (past .before .is-accepted .ensures) (not-false _ (past .if1 .left))
-    (then-tested _ _ _ (c .unless .ensures) none-tested (fewer .ensures ∙ ap (λ (n : ℕ). ltb (n - a .count) (a .reserved)) (available .ensures)))
+    (then-tested _ _ _ (c .unless .ensures) none-tested (fewer .ensures ∙ ap (λ (n : ℕ). ltb (n - a .count) (a .kept)) (available .ensures)))
 
 pub spare-spec : {M : Type 1} → statement M
 spare-spec =

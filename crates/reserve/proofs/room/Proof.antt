@@ -35,7 +35,7 @@ returns-2 c =
     let past = c .before .before in
     let a = past .before .before .args in
     then-accepted (a .earlier) _ (past .before .is-accepted .ensures) (not-false _ (past .if1 .left))
-    (then-tested _ _ _ (c .unless .ensures) none-tested (ap (λ (n : ℕ). ltb n (a .reserved + a .reservation)) (available .ensures)))
+    (then-tested _ _ _ (c .unless .ensures) none-tested (ap (λ (n : ℕ). ltb n (a .kept + a .reservation)) (available .ensures)))
 
 pub room-spec : {M : Type 1} → statement M
 room-spec =
