@@ -4,9 +4,9 @@ ghost use mathlib.Core.Bool.{true};
 ghost use Prim.Native.Nat.{_≤_};
 ghost use Rattle.bitmap.specs.Sizes.{maxBlocks};
 ghost use Rattle.bitmap.specs.Bits.{IsBitmap};
+ghost use Rattle.model.specs.CauseLists.{grantCauses};
 ghost use Rattle.model.specs.Calls.Allocate.{allocateAnswer, allocateMemory, allocateList};
 ghost use Rattle.verdicts.specs.Verdicts.{isAccepted, thenCauses};
-ghost use Rattle.allocate.specs.Causes.{countCauses};
 use available::scan::take_met;
 use bitmap::Bitmap;
 use counting::count_available;
@@ -35,7 +35,7 @@ fn enough<'a>(
     requires { ⌜ IsBitmap (now sam) ⌝ }
     requires { ⌜ IsBitmap (now «com») ⌝ }
     requires { ⌜ (isAccepted earlier ≡ true → blocks ≤ maxBlocks) ⌝ }
-    ensures { λ r. ⌜ r ≡ thenCauses earlier (countCauses blocks (now (sam .entry)) (now («com» .entry)) count (now (list .entry)) kept) ⌝ }
+    ensures { λ r. ⌜ r ≡ thenCauses earlier (grantCauses blocks (now (sam .entry)) (now («com» .entry)) count (now (list .entry)) kept) ⌝ }
 {
     if !earlier.is_accepted() {
         return earlier;

@@ -4,8 +4,7 @@ use native.Mathlib.Omega.{arith}
 use mathlib.Core.Path.{_≡_, refl, sym, ap, ap₂, _∙_, subst}
 use mathlib.Core.Bool.{Bool, true, false, not, cond, xor, _&&_, _||_, and-not-self}
 use mathlib.Core.Option.{none}
-use mathlib.Core.List.{List, [], _∷_, _++_}
-use lib.ListN.{length}
+use mathlib.Core.List.{List, _++_}
 use lib.Dec.{eqb}
 use borrow.Author.Tests.{eqb-true}
 use Rattle.bitmap.specs.Bits.{bit, IsBitmap}
@@ -14,20 +13,16 @@ use Rattle.bitmap.proofs.Laws.Blocks.{member-append}
 use Rattle.model_types.specs.declared.memory.Memory.{Memory}
 use Rattle.model_types.specs.declared.memory.Pending.the-variants.{Commit}
 use Rattle.model_types.specs.Memory.{slotAt, isActive, samBit, tamBit, withPending}
-use Rattle.model.specs.Stores.{Store, writes}
 use Rattle.model.specs.Commit.{committedSam, entriesOf, changedOf, commitDue, committed}
-use Rattle.model.specs.Calls.Committing.{commitError, committing, commitAnswer, commitMemory}
-use Rattle.model.specs.Outcome.{outcome, commitCall}
-use Rattle.model.proofs.Laws.Numbers.{stores-number}
-use Rattle.model.proofs.Laws.Accepted.{CommitAccepted, commit-accepted}
-use Rattle.model.proofs.Laws.Writes.{writes-changes}
+use Rattle.model.specs.Calls.Committing.{committing}
+use Rattle.model.proofs.Laws.Accepted.{CommitAccepted}
+use Rattle.model.proofs.Laws.Writes.{no-changes}
 use Rattle.model.proofs.Laws.Valid.{ValidParts, valid-parts}
 use Rattle.model.proofs.Laws.Commit.{committed-bits}
 use Rattle.model.proofs.Laws.Committed.{committed-bitmap}
-use Rattle.crash_safety.specs.Ledger.{enterAll, Sets, setsOf, setsWords, counts, withCounting, entered, holders}
-use Rattle.crash_safety.specs.World.{World, worldOf, events, step}
+use Rattle.crash_safety.specs.Ledger.{Sets, setsOf, setsWords, counts, withCounting, holders}
+use Rattle.crash_safety.specs.World.{World, worldOf}
 use Rattle.crash_safety.proofs.Invariant.{Tied, Plain, Related, Invariant, countingOf, same-disk}
-use Rattle.crash_safety.proofs.Refused.{memory-keeps}
 use Rattle.crash_safety.proofs.Touching.{plain, active-taken, active-freed}
 use Rattle.crash_safety.proofs.Count.{words-changed}
 use Rattle.crash_safety.proofs.Committed.{committed-related}
@@ -59,17 +54,11 @@ module _ (memory : Memory) (s : ℕ) (sets : Sets) (parts : ValidParts memory) (
       (sam .small) (committed-bitmap memory s .small) sets-change
       (sam .size) (committed-bitmap memory s .size)
 
-no-entries : (entries : List Store) → length entries ≡ 0 → entries ≡ []
-no-entries [] e = refl
-no-entries (x ∷ entries) e = absurd (omega arith)
-
 -- a commit that changes no word leaves SAM
 pub unchanged : (memory : Memory) (s : ℕ) → IsBitmap (memory .sam .words) → changedOf memory s ≡ 0
     → memory .sam .words ≡ committedSam memory s .words
-unfolding changedOf entriesOf writes
-unchanged memory s sam e =
-    ap (λ (es : List Store). writes es (memory .sam .words)) (sym (no-entries (entriesOf memory s) e))
-    ∙ writes-changes (memory .sam .words) (committedSam memory s .words) (sam .size ∙ sym (committed-bitmap memory s .size))
+unfolding changedOf entriesOf
+unchanged memory s sam e = no-changes (memory .sam .words) (committedSam memory s .words) (sam .size ∙ sym (committed-bitmap memory s .size)) e
 
 module _ (w : World) (s : ℕ) (i : Invariant w) (a : CommitAccepted (w .memory) s) where
   related : Related (w .memory) (w .ledger)
@@ -117,9 +106,9 @@ module _ (w : World) (s : ℕ) (i : Invariant w) (a : CommitAccepted (w .memory)
         pending = ((λ _. record { finds = tied .finds; slots = tied .slots; counted = refl }), λ h. absurd (omega (arith, h)));
       })
 
-  committing-keeps : Invariant (worldOf (committing (w .memory) s) (w .disk) (counts (w .ledger) s))
+  pub commit-keeps : Invariant (worldOf (committing (w .memory) s) (w .disk) (counts (w .ledger) s))
   unfolding committing counts
-  committing-keeps =
+  commit-keeps =
       subst
       (λ (n : ℕ). Invariant (worldOf (committing (w .memory) s) (w .disk) (cond (eqb n 0) (w .ledger) (withCounting (w .ledger) (countingOf s 0)))))
       (sym (same-words-counted (w .memory) s (setsOf (w .ledger) s) parts (related .sam) (a .active) (tied .slots s)))
@@ -133,9 +122,3 @@ module _ (w : World) (s : ℕ) (i : Invariant w) (a : CommitAccepted (w .memory)
           (cond t (w .ledger) (withCounting (w .ledger) (countingOf s 0))))
       go true e = ended (eqb-true (changedOf (w .memory) s) 0 e)
       go false e = begun (commitDue (w .memory) s)
-
-pub commit-keeps : (w : World) (s : ℕ) → Invariant w → Invariant (step (commitCall s) w)
-unfolding step events enterAll outcome entered commitMemory commitAnswer
-commit-keeps w s i =
-    memory-keeps Invariant w (commitError (w .memory) s) (committing (w .memory) s) _ (stores-number (commitError (w .memory) s) (commitDue (w .memory) s)) i
-    (λ e. committing-keeps w s i (commit-accepted (w .memory) s e))

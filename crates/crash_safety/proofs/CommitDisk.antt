@@ -8,17 +8,17 @@ use lib.ListN.{length, take, drop}
 use Rattle.bitmap.specs.Bits.{IsBitmap}
 use Rattle.model_types.specs.declared.memory.Memory.{Memory}
 use Rattle.model.specs.Sizes.{diskWords, logAt}
-use Rattle.model.specs.Stores.{Store, writes, after, commitPoint, closingStores, commitStores}
+use Rattle.model.specs.Stores.{Store, writes, commitPoint, closingStores, commitStores}
 use Rattle.model.specs.Commit.{committedSam, entriesOf, changedOf}
-use Rattle.model.specs.Valid.{sameWords}
-use Rattle.model.specs.Disk.{durable, baseImage}
+use Rattle.model.specs.Disk.{durable, baseImage, imageMatches}
 use Rattle.model.specs.Calls.Opening.{openError}
-use Rattle.model.proofs.Laws.Writes.{same-words, writes-changes, store-next-one}
+use Rattle.model.proofs.Laws.Writes.{writes-changes, store-next-one}
 use Rattle.model.proofs.Laws.Changes.{changes-valid, changes-count}
-use Rattle.model.proofs.Laws.DiskParts.{disk-log-length, point-told}
+use Rattle.model.proofs.Laws.DiskParts.{disk-tail-length, point-told, point-valid}
 use Rattle.model.proofs.Laws.Valid.{ValidParts}
 use Rattle.model.proofs.Laws.Committed.{committed-bitmap, committed-below}
 use Rattle.model.proofs.Laws.Closing.{closes}
+use Rattle.model.proofs.Laws.Matching.{image-is}
 use Rattle.model.proofs.Laws.CommitLog.{CommitFrom, changes-from, journalDisk, commitDisk, commit-journal, durable-before, durable-after, journal-opens}
 use Rattle.crash_safety.proofs.Invariant.{Small}
 use Rattle.crash_safety.proofs.Small.{writes-small, take-small, drop-small, commit-small, changes-small}
@@ -40,7 +40,7 @@ module _ (memory : Memory) (disk : List ℕ) (s : ℕ) (parts : ValidParts memor
 
   pub from : CommitFrom old (drop logAt disk) entries
   unfolding entriesOf
-  from = changes-from old new (drop logAt disk) (sam .size) (disk-log-length disk size)
+  from = changes-from old new (drop logAt disk) (sam .size) (disk-tail-length disk size)
 
   as-journal : (k : ℕ) → diskAfter memory disk s k ≡ journalDisk (memory .blocks) (commitPoint entries) old (drop logAt disk) closingStores entries k
   as-journal k = commit-journal (memory .blocks) old (drop logAt disk) entries from k
@@ -53,7 +53,7 @@ module _ (memory : Memory) (disk : List ℕ) (s : ℕ) (parts : ValidParts memor
       ∙ journal-opens (memory .blocks) (commitPoint entries) old (drop logAt disk) closingStores entries from (point-told entries) closes k
       (parts .some-blocks) (parts .few-blocks) (parts .sam-below)
       (changes-valid (memory .blocks) old new (parts .sam-below) (committed-below memory s))
-      (changes-count (memory .blocks) old new (parts .sam-below) (committed-below memory s))
+      (point-valid (memory .blocks) entries (changes-count (memory .blocks) old new (parts .sam-below) (committed-below memory s)))
 
   pub written : writes entries old ≡ new
   unfolding entriesOf
@@ -76,10 +76,10 @@ module _ (memory : Memory) (disk : List ℕ) (s : ℕ) (parts : ValidParts memor
 
   -- the next store on a disk that is as k stores leave it
   pub next-disk : (k : ℕ)
-      → sameWords disk (after k (commitStores entries) (baseImage (memory .blocks) (memory .sam .words) disk)) ≡ true
+      → imageMatches (memory .blocks) (memory .sam .words) disk k (commitStores entries) ≡ true
       → writes (take 1 (drop k (commitStores entries))) disk ≡ diskAfter memory disk s (k + 1)
   next-disk k e =
-      ap (writes (take 1 (drop k (commitStores entries)))) (same-words disk (after k (commitStores entries) (baseImage (memory .blocks) (memory .sam .words) disk)) e)
+      ap (writes (take 1 (drop k (commitStores entries)))) (image-is (memory .blocks) (memory .sam .words) disk k (commitStores entries) e)
       ∙ store-next-one k (commitStores entries) (baseImage (memory .blocks) (memory .sam .words) disk)
 
   pub next-small : (k : ℕ) → Small disk → Small (writes (take 1 (drop k (commitStores entries))) disk)

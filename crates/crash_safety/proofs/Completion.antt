@@ -1,118 +1,255 @@
--- In use every store that is due is accepted: work that has begun can be brought to its end.
-use Prim.Native.Nat.{ℕ, zero, suc, _+_, _-_}
+-- In use every store that is due is accepted: work that has begun can be brought to its end, and then its last store has made of the
+-- memory what it makes. Of memory and disk alone; in a world below.
+use Prim.Native.Nat.{ℕ, zero, suc, _+_, _≤_}
 use native.Mathlib.Omega.{arith}
-use mathlib.Core.Path.{_≡_, refl, sym, ap, _∙_, subst}
+use mathlib.Core.Path.{_≡_, refl, sym, ap, _∙_, subst, subst₂}
 use mathlib.Core.Bool.{Bool, true, false, cond}
 use mathlib.Core.Option.{Option, none}
-use lib.ListN.{replicate}
+use mathlib.Core.List.{List, _∷_, map}
+use lib.ListN.{length, take, drop, replicate, length-set, length-map, length-drop}
+use lib.Seq.{take-all}
 use lib.Dec.{eqb}
 use borrow.Author.Tests.{eqb-true}
+use Rattle.bitmap.specs.Sizes.{slotCount}
+use Rattle.bitmap.specs.Bits.{IsBitmap}
 use Rattle.model_types.specs.declared.error.Error.{Error}
 use Rattle.model_types.specs.declared.memory.Memory.{Memory}
 use Rattle.model_types.specs.declared.memory.Pending.{Pending}
-use Rattle.model_types.specs.declared.memory.Pending.the-variants.{Nothing, Commit, Recovery}
-use Rattle.model.specs.First.{unlessRefused}
-use Rattle.model_types.specs.Memory.{withPending}
-use Rattle.model.specs.Commit.{committed}
+use Rattle.model_types.specs.declared.memory.Pending.the-variants.{Nothing, Commit}
+use Rattle.model_types.specs.Memory.{withPending, idleSlot}
 use Rattle.model_types.specs.Pending.{isNothing}
+use Rattle.model_types.specs.Answers.{due, storesNumber}
+use Rattle.model.specs.First.{unlessRefused}
+use Rattle.model.specs.Stores.{Store, writes, commitStores}
+use Rattle.model.specs.Commit.{committedSam, entriesOf, changedOf, commitDue, refreshed, committed}
 use Rattle.model.specs.Pending.{storesDone, storesDue, oneMoreDone, finished, storesLeft}
 use Rattle.model.specs.Valid.{pendingValid}
-use Rattle.model.specs.Calls.Storing.{storeError, advanced, storeMemory}
-use Rattle.model.specs.Completion.{State, StoresAccepted, afterStores, completed}
-use Rattle.model.specs.Outcome.{outcome, storeCall}
-use Rattle.model.proofs.Laws.Accepted.{accepted-store}
+use Rattle.model.specs.Disk.{dueStores}
+use Rattle.model.specs.Calls.Committing.{commitError, committing, commitAnswer, commitMemory}
+use Rattle.model.specs.Calls.Storing.{advanced, storeMemory, storeDisk}
+use Rattle.model.specs.Completion.{State, StoresAccepted, afterStores, completed, carriedOut}
+use Rattle.model.specs.Outcome.{Call, outcome, commitCall, storeCall}
+use Rattle.model.proofs.Laws.Accepted.{is-nothing, StoreAccepted, accepted-store, commit-accepted}
 use Rattle.model.proofs.Laws.Valid.{valid-parts}
-use Rattle.model.proofs.Laws.Pending.{commit-parts, recovery-parts}
+use Rattle.model.proofs.Laws.Pending.{unfinished}
+use Rattle.model.proofs.Laws.Committed.{committed-bitmap}
+use Rattle.model.proofs.Laws.DueStores.{due-length}
+use Rattle.model.proofs.Laws.Progress.{some-left, one-fewer, finished-pending, by-finish, by-store}
+use Rattle.model.proofs.Laws.Stored.{stored-memory, stored-disk, stored-is}
 use Rattle.crash_safety.specs.World.{World, step, run}
 use Rattle.crash_safety.specs.InOrder.{Consistent, InUse, Completes}
 use Rattle.crash_safety.proofs.Invariant.{Invariant}
-use Rattle.crash_safety.proofs.Keeps.{step-keeps}
-use Rattle.crash_safety.proofs.InOrder.Always.{store-uses}
+use Rattle.crash_safety.proofs.InOrder.Store.{store-consistent}
+use Rattle.crash_safety.proofs.InOrder.Commit.{commit-consistent}
 
--- in use causes 1, 2 and 6 don't hold, so a store is refused only where nothing is pending
-store-passes : (w : World) → InUse w → isNothing (w .memory .pending) ≡ false → storeError (w .memory) (w .disk) ≡ none
-store-passes w c pending =
-    accepted-store (w .memory) (w .disk) (record { is-valid = c .is-valid; size = c .size; matches = c .matches; pending = pending })
-
--- ---- the stores not yet done, by the kind of work
-
-some-left : (p : Pending) (n : ℕ) → storesLeft p ≡ suc n → isNothing p ≡ false
-unfolding storesLeft storesDone storesDue isNothing
-some-left Nothing n e = absurd (omega (arith, e))
-some-left (Commit s done due) n e = refl
-some-left (Recovery done due) n e = refl
+-- ---- the stores not yet done
 
 none-left : (memory : Memory) (p : Pending) → pendingValid memory p ≡ true → storesLeft p ≡ 0 → p ≡ Nothing
-unfolding storesLeft storesDone storesDue
-none-left memory Nothing v e = refl
-none-left memory (Commit s done due) v e = absurd (omega (arith, e, commit-parts memory s done due v .not-ended))
-none-left memory (Recovery done due) v e = absurd (omega (arith, e, recovery-parts memory done due v .not-ended))
+unfolding storesLeft
+none-left memory p v e = go (isNothing p) refl
+  where
+    go : (t : Bool) → isNothing p ≡ t → p ≡ Nothing
+    go true n = is-nothing p n
+    go false n = absurd (omega (arith, e, unfinished memory p v n))
 
--- the last store leaves none
-finished-left : (memory : Memory) (p : Pending) (n : ℕ) → storesLeft p ≡ suc n → storesLeft (finished memory p .pending) ≡ 0
-unfolding storesLeft storesDone storesDue finished committed
-finished-left memory Nothing n e = absurd (omega (arith, e))
-finished-left memory (Commit s done due) n e = refl
-finished-left memory (Recovery done due) n e = refl
-
--- another one fewer
-more-left : (p : Pending) → storesLeft (oneMoreDone p) ≡ storesLeft p - 1
-unfolding storesLeft storesDone storesDue oneMoreDone
-more-left Nothing = refl
-more-left (Commit s done due) = omega arith
-more-left (Recovery done due) = omega arith
-
-one-fewer : (memory : Memory) (p : Pending) (n : ℕ) → storesLeft p ≡ suc n → storesLeft (advanced memory p .pending) ≡ n
-unfolding advanced storesLeft
-one-fewer memory p n e = go (eqb (storesDone p + 1) (storesDue p)) refl
+-- after a store one fewer is left
+store-left : (memory : Memory) (p : Pending) (n : ℕ) → storesLeft p ≡ suc n → storesLeft (advanced memory p .pending) ≡ n
+unfolding advanced storesLeft storesDone storesDue
+store-left memory p n e = go (eqb (storesDone p + 1) (storesDue p)) refl
   where
     go : (t : Bool) → eqb (storesDone p + 1) (storesDue p) ≡ t
         → storesLeft (cond t (finished memory p) (withPending memory (oneMoreDone p)) .pending) ≡ n
-    go true q = omega (arith, finished-left memory p n e, eqb-true (storesDone p + 1) (storesDue p) q, e)
-    go false q = omega (arith, more-left p, e)
+    go true q = ap storesLeft (finished-pending memory p (some-left p n e)) ∙ omega (arith, eqb-true (storesDone p + 1) (storesDue p) q, e)
+    go false q = one-fewer p n e
+
+-- where nothing is pending nothing is finished
+finished-none : (memory : Memory) (p : Pending) → p ≡ Nothing → finished memory p ≡ memory
+unfolding finished
+finished-none memory p e = ap (finished memory) e
+
+-- the list has no more stores than are left
+few-left : (memory : Memory) (disk : List ℕ) → Consistent memory disk
+    → length (drop (storesDone (memory .pending)) (dueStores memory disk (memory .pending))) ≤ storesLeft (memory .pending)
+unfolding storesLeft
+few-left memory disk c =
+    omega (
+      arith,
+      length-drop (storesDone (memory .pending)) (dueStores memory disk (memory .pending)),
+      due-length memory disk (c .is-valid) (c .size) (c .matches),
+    )
 
 -- ---- store calls, one after the other
+
+-- the shape that the types give a memory: eight slots, and a SAM of 128 words of 32 bits
+pub record Shaped (memory : Memory) : Type 0 where
+  pub slots : length (memory .slots) ≡ slotCount
+  pub sam : IsBitmap (memory .sam .words)
+
+committed-shaped : (memory : Memory) (s : ℕ) → Shaped memory → Shaped (committed memory s)
+unfolding committed
+committed-shaped memory s shaped =
+    let refresh = refreshed memory (committedSam memory s) in
+    record {
+      slots = length-set (map refresh (memory .slots)) s idleSlot ∙ length-map (memory .slots) refresh ∙ shaped .slots;
+      sam = committed-bitmap memory s;
+    }
+
+pending-shaped : (memory : Memory) (pending : Pending) → Shaped memory → Shaped (withPending memory pending)
+pending-shaped memory pending shaped = record { slots = shaped .slots; sam = shaped .sam }
+
+one-shaped : (t : Bool) {x y : Memory} → Shaped x → Shaped y → Shaped (cond t x y)
+one-shaped true p q = p
+one-shaped false p q = q
+
+advanced-shaped : (memory : Memory) → Shaped memory → Shaped (advanced memory (memory .pending))
+advanced-shaped memory shaped =
+    let p : Pending = memory .pending in
+    by-store Shaped memory p (by-finish Shaped memory shaped (pending-shaped memory Nothing shaped) p (λ t _ _ _. committed-shaped memory t shaped))
+    (pending-shaped memory (oneMoreDone p) shaped)
+
+-- in order, a store is refused only where nothing is pending
+store-passes : (memory : Memory) (disk : List ℕ) → Consistent memory disk → isNothing (memory .pending) ≡ false → StoreAccepted memory disk
+store-passes memory disk c pending = record { is-valid = c .is-valid; size = c .size; matches = c .matches; pending = pending }
+
+pub record Ended (n : ℕ) (memory : Memory) (disk : List ℕ) : Type 0 where
+  pub accepted : StoresAccepted n memory disk
+  pub consistent : Consistent (afterStores n memory disk .memory) (afterStores n memory disk .disk)
+  pub ended : afterStores n memory disk .memory .pending ≡ Nothing
+
+-- as many stores as are left are accepted, and then nothing is pending
+pub ends : (n : ℕ) (memory : Memory) (disk : List ℕ) → Shaped memory → Consistent memory disk → storesLeft (memory .pending) ≡ n → Ended n memory disk
+ends zero memory disk shaped c e =
+    record { accepted = tt; consistent = c; ended = none-left memory (memory .pending) (valid-parts memory (c .is-valid) .pending-valid) e }
+ends (suc n) memory disk shaped c e =
+    let a = store-passes memory disk c (some-left (memory .pending) n e) in
+    let memory-is = stored-memory memory disk a in
+    let next : Consistent (storeMemory memory disk) (storeDisk memory disk) =
+    subst₂ Consistent (sym memory-is) (sym (stored-disk memory disk a)) (store-consistent memory disk (shaped .slots) (shaped .sam) c a) in
+    let rest =
+    ends n (storeMemory memory disk) (storeDisk memory disk) (subst Shaped (sym memory-is) (advanced-shaped memory shaped)) next
+    (ap (λ (m : Memory). storesLeft (m .pending)) memory-is ∙ store-left memory (memory .pending) n e) in
+    record { accepted = (accepted-store memory disk a, rest .accepted); consistent = rest .consistent; ended = rest .ended }
+
+-- ---- work run to its end
+
+-- it completes, the memory is what its last store makes of it, and all stores of the list that weren't done are on the disk
+pub record Finishes (memory : Memory) (disk : List ℕ) : Type 0 where
+  pub completes : Completes memory disk
+  pub leaves : completed memory disk .memory ≡ finished memory (memory .pending)
+  pub written : completed memory disk .disk ≡ writes (drop (storesDone (memory .pending)) (dueStores memory disk (memory .pending))) disk
+
+pub finishes : (memory : Memory) (disk : List ℕ) → Shaped memory → Consistent memory disk → Finishes memory disk
+unfolding completed
+finishes memory disk shaped c =
+    let n : ℕ = storesLeft (memory .pending) in
+    let d = ends n memory disk shaped c refl in
+    let is = stored-is n memory disk (d .accepted) in
+    record {
+      completes = record { accepted = d .accepted; ended = d .ended; consistent = d .consistent };
+      leaves = at-end n refl (is .last);
+      written = is .disk-is ∙ ap (λ (stores : List Store). writes stores disk) all;
+    }
+  where
+    p : Pending
+    p = memory .pending
+
+    at-end : (n : ℕ) → storesLeft p ≡ n → (1 ≤ n → n ≡ storesLeft p → afterStores n memory disk .memory ≡ finished memory p)
+        → afterStores n memory disk .memory ≡ finished memory p
+    at-end zero e last = sym (finished-none memory p (none-left memory p (valid-parts memory (c .is-valid) .pending-valid) e))
+    at-end (suc n) e last = last (omega arith) (sym e)
+
+    all : take (storesLeft p) (drop (storesDone p) (dueStores memory disk p)) ≡ drop (storesDone p) (dueStores memory disk p)
+    all = take-all (storesLeft p) (drop (storesDone p) (dueStores memory disk p)) (few-left memory disk c)
+
+-- ---- a commit
+
+module _ (memory : Memory) (s : ℕ) where
+  abbrev none-changed : Bool
+  none-changed = eqb (changedOf memory s) 0
+
+  committing-shaped : Shaped memory → Shaped (committing memory s)
+  unfolding committing
+  committing-shaped shaped = one-shaped none-changed (committed-shaped memory s shaped) (pending-shaped memory _ shaped)
+
+  -- it is finished by what it makes, with stores or without
+  committing-finished : finished (committing memory s) (committing memory s .pending) ≡ committed memory s
+  unfolding committing finished committed committedSam refreshed
+  committing-finished = go none-changed
+    where
+      go : (t : Bool) → (let m : Memory = cond t (committed memory s) (withPending memory (Commit s 0 (commitDue memory s))) in finished m (m .pending)) ≡ committed memory s
+      go true = refl
+      go false = refl
+
+  -- and as many stores are left as it answered
+  committing-left : storesLeft (committing memory s .pending) ≡ commitDue memory s
+  unfolding committing storesLeft storesDone storesDue committed commitDue
+  committing-left = go none-changed (length (commitStores (entriesOf memory s)))
+    where
+      go : (t : Bool) (n : ℕ) → storesLeft (cond t (committed memory s) (withPending memory (Commit s 0 (cond t 0 n))) .pending) ≡ cond t 0 n
+      go true n = refl
+      go false n = omega arith
+
+  commit-carried : (disk : List ℕ) → commitError memory s ≡ none → carriedOut (commitCall s) memory disk ≡ completed (committing memory s) disk
+  unfolding carriedOut outcome commitMemory commitAnswer unlessRefused due
+  commit-carried disk e =
+      ap (λ (x : Option Error).
+      cond (eqb (storesNumber (due x (commitDue memory s))) 0)
+      (completed (unlessRefused x (committing memory s) memory) disk)
+      (record { memory = unlessRefused x (committing memory s) memory; disk = disk })) e
+
+-- where it is accepted every store of it is, and then the memory is the committed one
+pub record CommitFinishes (memory : Memory) (disk : List ℕ) (s : ℕ) : Type 0 where
+  pub accepted : StoresAccepted (commitDue memory s) (committing memory s) disk
+  pub leaves : carriedOut (commitCall s) memory disk .memory ≡ committed memory s
+  pub consistent : Consistent (committed memory s) (carriedOut (commitCall s) memory disk .disk)
+
+pub commit-finishes : (memory : Memory) (disk : List ℕ) (s : ℕ) → Shaped memory → Consistent memory disk → commitError memory s ≡ none
+    → CommitFinishes memory disk s
+commit-finishes memory disk s shaped c e =
+    let a = commit-accepted memory s e in
+    let begun = commit-consistent memory disk s (shaped .slots) (shaped .sam) c a in
+    let f = finishes (committing memory s) disk (committing-shaped memory s shaped) begun in
+    let out = commit-carried memory s disk e in
+    let leaves = ap (λ (x : State). x .memory) out ∙ f .leaves ∙ committing-finished memory s in
+    record {
+      accepted = subst (λ (n : ℕ). StoresAccepted n (committing memory s) disk) (committing-left memory s) (f .completes .accepted);
+      leaves = leaves;
+      consistent = subst₂ Consistent (sym (ap (λ (x : State). x .memory) out) ∙ leaves) (sym (ap (λ (x : State). x .disk) out)) (f .completes .consistent);
+    }
+
+-- ---- in a world
 
 abbrev pub stored : ℕ → World → World
 stored n w = run (replicate n storeCall) w
 
--- memory and disk after them
+-- memory and disk after n store calls
 pub after-stored : (n : ℕ) (w : World) → afterStores n (w .memory) (w .disk) ≡ record { memory = stored n w .memory; disk = stored n w .disk }
 unfolding run step outcome
 after-stored zero w = refl
 after-stored (suc n) w = after-stored n (step storeCall w)
 
-pub record Ended (n : ℕ) (w : World) : Type 0 where
-  pub accepted : StoresAccepted n (w .memory) (w .disk)
-  pub invariant : Invariant (stored n w)
-  pub in-use : InUse (stored n w)
-  pub none-left : storesLeft (stored n w .memory .pending) ≡ 0
+-- a call with its stores is a list of calls
+abbrev storesAfter : Call → World → ℕ
+storesAfter call w =
+    cond (eqb (outcome call (w .memory) (w .disk) .number) 0) (storesLeft (outcome call (w .memory) (w .disk) .memory .pending)) 0
 
-pub ends : (n : ℕ) (w : World) → Invariant w → InUse w → storesLeft (w .memory .pending) ≡ n → Ended n w
-unfolding run step outcome storeMemory unlessRefused
-ends zero w i c e = record { accepted = tt; invariant = i; in-use = c; none-left = e }
-ends (suc n) w i c e =
-    let passes = store-passes w c (some-left (w .memory .pending) n e) in
-    let left : storesLeft (storeMemory (w .memory) (w .disk) .pending) ≡ n =
-    ap (λ (x : Option Error). storesLeft (unlessRefused x (advanced (w .memory) (w .memory .pending)) (w .memory) .pending)) passes
-    ∙ one-fewer (w .memory) (w .memory .pending) n e in
-    let rest = ends n (step storeCall w) (step-keeps storeCall w i) (store-uses w i c) left in
-    record { accepted = (passes, rest .accepted); invariant = rest .invariant; in-use = rest .in-use; none-left = rest .none-left }
+pub carried-out : (call : Call) (w : World)
+    → carriedOut call (w .memory) (w .disk)
+    ≡ record { memory = run (call ∷ replicate (storesAfter call w) storeCall) w .memory; disk = run (call ∷ replicate (storesAfter call w) storeCall) w .disk }
+unfolding carriedOut completed run step
+carried-out call w = go (eqb (outcome call (w .memory) (w .disk) .number) 0) ∙ after-stored (storesAfter call w) (step call w)
+  where
+    after : World
+    after = step call w
 
--- then nothing is pending
-pub nothing-pending : (n : ℕ) (w : World) → Ended n w → stored n w .memory .pending ≡ Nothing
-nothing-pending n w d =
-    none-left (stored n w .memory) (stored n w .memory .pending) (valid-parts (stored n w .memory) (d .in-use .is-valid) .pending-valid) (d .none-left)
+    go : (t : Bool)
+        → cond t (afterStores (storesLeft (after .memory .pending)) (after .memory) (after .disk)) (record { memory = after .memory; disk = after .disk })
+        ≡ afterStores (cond t (storesLeft (after .memory .pending)) 0) (after .memory) (after .disk)
+    go true = refl
+    go false = refl
 
--- ---- work run to its end
+pub shaped-in-use : (w : World) → Invariant w → InUse w → Shaped (w .memory)
+shaped-in-use w i c = let related = i .related (c .is-valid) in record { slots = related .slots; sam = related .sam }
 
 pub completes : (w : World) → Invariant w → InUse w → Completes (w .memory) (w .disk)
-unfolding completed
-completes w i c =
-    let n : ℕ = storesLeft (w .memory .pending) in
-    let d = ends n w i c refl in
-    record {
-      accepted = d .accepted;
-      ended = ap (λ (s : State). s .memory .pending) (after-stored n w) ∙ nothing-pending n w d;
-      consistent = subst (λ (s : State). Consistent (s .memory) (s .disk)) (sym (after-stored n w)) (d .in-use);
-    }
+completes w i c = finishes (w .memory) (w .disk) (shaped-in-use w i c) c .completes

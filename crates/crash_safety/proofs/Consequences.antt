@@ -7,7 +7,7 @@ use mathlib.Core.List.{List, _++_}
 use lib.ListN.{length, take, drop}
 use lib.Dec.{ltb}
 use borrow.Author.Tests.{ltb-true, ltb-false}
-use Rattle.bitmap.specs.Sizes.{maxBlocks, slotCount}
+use Rattle.bitmap.specs.Sizes.{maxBlocks}
 use Rattle.bitmap.specs.Bits.{bit}
 use Rattle.bitmap.specs.Blocks.{member}
 use Rattle.model_types.specs.declared.error.Error.{Error}
@@ -28,18 +28,18 @@ use Rattle.model.proofs.Laws.Valid.{ValidParts, valid-parts}
 use Rattle.model.proofs.Laws.Commit.{committed-bits}
 use Rattle.model.proofs.Laws.Pending.{commit-parts, precommitted-active}
 use Rattle.model.proofs.Laws.Granting.{Grants, allocate-grants, allocate-extent-grants}
-use Rattle.crash_safety.specs.Ledger.{enterAll, Ledger, noSets, setsOf, emptied, holders, enter, entered}
-use Rattle.crash_safety.specs.World.{World, begin, events, step, run}
+use Rattle.crash_safety.specs.Ledger.{enterAll, Ledger, noSets, setsOf, crashed, holders, enter, entered}
+use Rattle.crash_safety.specs.World.{World, begin, events, step, run, Without}
 use Rattle.crash_safety.specs.InOrder.{InUse, WorkCompletes}
 use Rattle.crash_safety.proofs.Invariant.{PendingTied, Invariant}
 use Rattle.crash_safety.proofs.Touching.{plain}
 use Rattle.crash_safety.proofs.Granting.{unheld}
-use Rattle.crash_safety.proofs.Allocate.{listed}
-use Rattle.crash_safety.proofs.Crash.{alike}
+use Rattle.crash_safety.proofs.Works.{listed}
+use Rattle.crash_safety.proofs.Holders.{crashed-sets}
 use Rattle.crash_safety.proofs.Keeps.{step-keeps, run-keeps, begins-formatted}
 use Rattle.crash_safety.proofs.Completion.{completes}
 use Rattle.crash_safety.proofs.Theorem.{safe, crash-safe}
-use Rattle.crash_safety.proofs.Recovering.{Recovering, crash-settles, run-settled}
+use Rattle.crash_safety.proofs.Recovering.{beginsCommit, crash-settles, run-settled}
 
 -- whether an open of this disk finds the block allocated
 abbrev pub found : List ℕ → ℕ → Bool
@@ -120,17 +120,17 @@ module _ (blocks : ℕ) (some-blocks : 1 ≤ blocks) (few : blocks ≤ maxBlocks
 
   -- A crash loses every unfinished transaction
   pub crash-loses-unfinished : (s : ℕ) → setsOf (step crashCall w .ledger) s ≡ noSets
-  unfolding step events enterAll outcome enter entered emptied
-  crash-loses-unfinished s = alike slotCount s noSets
+  unfolding step events enterAll outcome enter entered crashed
+  crash-loses-unfinished s = crashed-sets (w .ledger .slots) s
 
   -- and nothing else: the next open finds the allocated set as it was before the crash.
   pub crash-keeps-allocated : (b : ℕ) → found (step crashCall w .disk) b ≡ member b (w .ledger .allocated)
   unfolding step outcome
   crash-keeps-allocated b = finds b
 
-  -- A second crash inside a recovery is harmless, any number of times: after a crash come opens, stores and crashes in any
-  -- number and order, and an open finds the same.
-  pub recovery-again : (later : List Call) → Recovering later → (b : ℕ) → found (run later (step crashCall w) .disk) b ≡ found (w .disk) b
+  -- A second crash inside a recovery is harmless, any number of times: after a crash come opens, stores, crashes and whatever
+  -- else but a commit that is accepted, in any number and order, and an open finds the same.
+  pub recovery-again : (later : List Call) → Without beginsCommit later (step crashCall w) → (b : ℕ) → found (run later (step crashCall w) .disk) b ≡ found (w .disk) b
   unfolding step
   recovery-again later r b =
       let after : World = step crashCall w in

@@ -1,11 +1,11 @@
--- A crash keeps the invariant, and so does an open: it finds what the disk stands for. A status call alters nothing.
+-- A crash keeps the invariant, and so does an open: it finds what the disk stands for.
 use Prim.Native.Nat.{ℕ, zero, suc, _≤_}
 use native.Mathlib.Omega.{arith}
 use mathlib.Core.Path.{_≡_, refl, sym, ap, _∙_, subst}
 use mathlib.Core.Bool.{false, false≢true}
 use mathlib.Core.Option.{Option, none}
-use mathlib.Core.List.{List, [], _∷_}
-use lib.ListN.{getD, replicate}
+use mathlib.Core.List.{List}
+use lib.ListN.{length, getD, replicate, length-map}
 use Rattle.bitmap.specs.Sizes.{slotCount, blocksInRange}
 use Rattle.bitmap.specs.Bits.{bit}
 use Rattle.bitmap.specs.Blocks.{member}
@@ -15,18 +15,14 @@ use Rattle.model_types.specs.declared.memory.Slot.{Slot}
 use Rattle.model_types.specs.declared.memory.Pending.{Pending}
 use Rattle.model_types.specs.Memory.{zeroMemory, idleSlot, quietMemory, bitmap}
 use Rattle.model.specs.First.{unlessRefused}
-use Rattle.model_types.specs.Answers.{storesNumber}
 use Rattle.model.specs.Valid.{valid}
 use Rattle.model.specs.Disk.{diskBlocks, logLength, durable}
-use Rattle.model.specs.Calls.Opening.{openError, recoveryDue, recoveryPending, opened, openAnswer, openMemory}
-use Rattle.model.specs.Outcome.{Outcome, outcome, openCall, statusCall, commitCostCall, crashCall}
-use Rattle.model.proofs.Laws.Numbers.{numberOf, stores-number}
+use Rattle.model.specs.Calls.Opening.{openError, recoveryPending, opened, openMemory}
 use Rattle.model.proofs.Laws.Durable.{durable-length}
-use Rattle.crash_safety.specs.Ledger.{Event, Sets, noSets, Ledger, emptied, entered, enter, enterAll, crashEvent, holders, opening, asking}
-use Rattle.crash_safety.specs.World.{World, worldOf, eventOf, events, step}
-use Rattle.crash_safety.proofs.Holders.{one-le, takers-crashed}
+use Rattle.crash_safety.specs.Ledger.{Sets, noSets, Ledger, crashedSets, crashed, holders}
+use Rattle.crash_safety.specs.World.{World, worldOf}
+use Rattle.crash_safety.proofs.Holders.{one-le, crashed-sets, takers-crashed}
 use Rattle.crash_safety.proofs.Invariant.{Tied, Plain, PendingTied, Invariant, same-disk}
-use Rattle.crash_safety.proofs.Refused.{enter-accepted, asked-nothing}
 use Rattle.crash_safety.proofs.Small.{durable-small}
 
 -- the memory of zeros isn't valid
@@ -40,38 +36,43 @@ alike zero t a = refl
 alike (suc n) zero a = refl
 alike (suc n) (suc t) a = alike n t a
 
-emptied-holders : (ledger : Ledger) (b : ℕ) → holders (emptied ledger) b ≤ 1
-unfolding holders emptied
-emptied-holders ledger b = omega (arith, one-le (member b (ledger .allocated)), takers-crashed b slotCount)
+crashed-holders : (ledger : Ledger) (b : ℕ) → holders (crashed ledger) b ≤ 1
+unfolding holders crashed
+crashed-holders ledger b = omega (arith, one-le (member b (ledger .allocated)), takers-crashed b (ledger .slots))
+
+crashed-length : (ledger : Ledger) → length (crashed ledger .slots) ≡ length (ledger .slots)
+unfolding crashed
+crashed-length ledger = length-map (ledger .slots) crashedSets
 
 -- ---- a crash
 
-pub crash-keeps : (w : World) → Invariant w → Invariant (step crashCall w)
-unfolding step events enterAll outcome enter entered emptied
+pub crash-keeps : (w : World) → Invariant w → Invariant (worldOf zeroMemory (w .disk) (crashed (w .ledger)))
+unfolding crashed
 crash-keeps w i =
-    same-disk w zeroMemory (emptied (w .ledger)) i refl (emptied-holders (w .ledger)) refl (λ v. absurd (false≢true (sym zero-invalid ∙ v)))
+    same-disk w zeroMemory (crashed (w .ledger)) i refl (crashed-holders (w .ledger)) (crashed-length (w .ledger) ∙ i .slots)
+    (λ v. absurd (false≢true (sym zero-invalid ∙ v)))
 
 -- ---- an open
 
 -- a memory just opened is related to the ledger after a crash
 idle-plain : (disk : List ℕ) (pending : Pending) (ledger : Ledger)
     → ((b : ℕ) → bit (durable disk) b ≡ member b (ledger .allocated))
-    → Plain (quietMemory (diskBlocks disk) (bitmap (durable disk)) pending) (emptied ledger) none
-unfolding emptied member
+    → Plain (quietMemory (diskBlocks disk) (bitmap (durable disk)) pending) (crashed ledger) none
+unfolding crashed member
 idle-plain disk pending ledger kept =
     record {
       finds = kept;
       slots = λ t.
-          subst (λ (sets : Sets). Tied (bit (durable disk)) (getD (replicate slotCount idleSlot) t idleSlot) sets) (sym (alike slotCount t noSets))
+          subst (λ (sets : Sets). Tied (bit (durable disk)) (getD (replicate slotCount idleSlot) t idleSlot) sets) (sym (crashed-sets (ledger .slots) t))
           (subst (λ (slot : Slot). Tied (bit (durable disk)) slot noSets) (sym (alike slotCount t idleSlot))
           (record { taken = λ b. refl; freed = λ b. refl }));
       counted = refl;
     }
 
-opened-keeps : (w : World) → Invariant w → Invariant (worldOf (opened (w .disk)) (w .disk) (emptied (w .ledger)))
-unfolding opened emptied recoveryPending
-opened-keeps w i =
-    same-disk w (opened (w .disk)) (emptied (w .ledger)) i refl (emptied-holders (w .ledger)) refl
+pub open-keeps : (w : World) → Invariant w → Invariant (worldOf (opened (w .disk)) (w .disk) (crashed (w .ledger)))
+unfolding opened crashed recoveryPending
+open-keeps w i =
+    same-disk w (opened (w .disk)) (crashed (w .ledger)) i refl (crashed-holders (w .ledger)) (crashed-length (w .ledger) ∙ i .slots)
     (λ _.
     record {
       sam = record { size = durable-length (w .disk) (i .opens); small = durable-small (w .disk) (i .small) };
@@ -82,7 +83,7 @@ opened-keeps w i =
     memory : Memory
     memory = quietMemory (diskBlocks (w .disk)) (bitmap (durable (w .disk))) (recoveryPending (logLength (w .disk)))
 
-    by-log : (p : ℕ) → PendingTied memory (emptied (w .ledger)) (recoveryPending p)
+    by-log : (p : ℕ) → PendingTied memory (crashed (w .ledger)) (recoveryPending p)
     by-log zero = idle-plain (w .disk) (recoveryPending (logLength (w .disk))) (w .ledger) (i .kept)
     by-log (suc p) = idle-plain (w .disk) (recoveryPending (logLength (w .disk))) (w .ledger) (i .kept)
 
@@ -90,37 +91,3 @@ opened-keeps w i =
 pub open-memory : (disk : List ℕ) → openError disk ≡ none → openMemory disk ≡ opened disk
 unfolding openMemory unlessRefused
 open-memory disk e = ap (λ (x : Option Error). unlessRefused x (opened disk) zeroMemory) e
-
-open-number : (disk : List ℕ) → openError disk ≡ none → storesNumber (openAnswer disk) ≡ 0
-unfolding openAnswer
-open-number disk e = stores-number (openError disk) (recoveryDue (logLength disk)) ∙ ap numberOf e
-
-pub open-keeps : (w : World) → Invariant w → Invariant (step openCall w)
-unfolding step events enterAll outcome entered
-open-keeps w i =
-    subst (λ (m : Memory). Invariant (worldOf m (w .disk) (enter opens after))) (sym (open-memory (w .disk) (i .opens)))
-    (subst (λ (l : Ledger). Invariant (worldOf (opened (w .disk)) (w .disk) l))
-    (sym (enter-accepted opens after (open-number (w .disk) (i .opens))))
-    (opened-keeps (step crashCall w) (crash-keeps w i)))
-  where
-    -- the ledger after the crash
-    after : Ledger
-    after = enter crashEvent (w .ledger)
-
-    opens : Event
-    opens = eventOf opening 0 0 (outcome openCall (w .memory) (w .disk))
-
--- ---- status and commit cost
-
-module _ (w : World) where
-  -- a question
-  asked-keeps : (s : ℕ) (after : Outcome) → Invariant w → Invariant (worldOf (w .memory) (w .disk) (enterAll (eventOf asking s 0 after ∷ []) (w .ledger)))
-  asked-keeps s after i = subst (λ (l : Ledger). Invariant (worldOf (w .memory) (w .disk) l)) (sym (asked-nothing s after (w .ledger))) i
-
-  pub status-keeps : Invariant w → Invariant (step statusCall w)
-  unfolding step events outcome
-  status-keeps = asked-keeps 0 (outcome statusCall (w .memory) (w .disk))
-
-  pub commit-cost-keeps : (s count : ℕ) → Invariant w → Invariant (step (commitCostCall s count) w)
-  unfolding step events outcome
-  commit-cost-keeps s count = asked-keeps s (outcome (commitCostCall s count) (w .memory) (w .disk))

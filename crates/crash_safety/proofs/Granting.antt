@@ -14,7 +14,8 @@ use Rattle.bitmap.proofs.Laws.Blocks.{member-append}
 use Rattle.model_types.specs.declared.memory.Memory.{Memory}
 use Rattle.model_types.specs.declared.memory.Slot.{Slot}
 use Rattle.model_types.specs.Memory.{slotAt, withTam, isActive, samBit, comBit, tamBit, volumeBitmap}
-use Rattle.model.specs.Valid.{touched, touches}
+use Rattle.model.specs.Touched.{touched}
+use Rattle.model.specs.Valid.{touches}
 use Rattle.model.specs.Calls.Allocate.{taking}
 use Rattle.model.proofs.Laws.Accepted.{Ready}
 use Rattle.model.proofs.Laws.Valid.{ValidParts, valid-parts, slot-below, touches-at, touches-one, touchesBlock}

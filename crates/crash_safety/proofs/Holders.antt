@@ -4,12 +4,12 @@ use native.Mathlib.Nat.{not-suc-le-zero, le-of-suc-le-suc}
 use native.Mathlib.Omega.{arith}
 use mathlib.Core.Path.{_≡_, refl, sym, ap, _∙_}
 use mathlib.Core.Bool.{Bool, true, false, not, cond, _&&_, _||_, and-false}
-use mathlib.Core.List.{List, [], _∷_}
-use lib.ListN.{length, getD, set, replicate}
+use mathlib.Core.List.{List, [], _∷_, map}
+use lib.ListN.{length, getD, set}
 use lib.Dec.{eqb}
 use borrow.Author.Tests.{eqb-true}
 use Rattle.bitmap.specs.Blocks.{member}
-use Rattle.crash_safety.specs.Ledger.{Sets, noSets, without, takers, holders}
+use Rattle.crash_safety.specs.Ledger.{Sets, noSets, crashedSets, without, takers}
 pub use Rattle.model.proofs.Laws.Touches.{one}
 
 pub one-le : (t : Bool) → one t ≤ 1
@@ -37,11 +37,17 @@ takers-none b (own ∷ slots) h =
     let e : one (member b (own .taken)) ≡ 0 = ap one (h 0) in
     omega arith
 
--- after a crash no slot has taken anything
-pub takers-crashed : (b n : ℕ) → takers b (replicate n noSets) ≡ 0
-unfolding takers member
-takers-crashed b zero = refl
-takers-crashed b (suc n) = let ih = takers-crashed b n in omega arith
+-- after a crash no slot has any sets,
+pub crashed-sets : (slots : List Sets) (t : ℕ) → getD (map crashedSets slots) t noSets ≡ noSets
+unfolding crashedSets
+crashed-sets [] t = refl
+crashed-sets (own ∷ slots) zero = refl
+crashed-sets (own ∷ slots) (suc t) = crashed-sets slots t
+
+-- so none has taken anything
+pub takers-crashed : (b : ℕ) (slots : List Sets) → takers b (map crashedSets slots) ≡ 0
+unfolding member
+takers-crashed b slots = takers-none b (map crashedSets slots) (λ t. ap (λ (sets : Sets). member b (sets .taken)) (crashed-sets slots t))
 
 -- of a list without some blocks
 pub member-without : (b : ℕ) (blocks gone : List ℕ) → member b (without blocks gone) ≡ (member b blocks && not (member b gone))

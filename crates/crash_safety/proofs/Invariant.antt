@@ -17,7 +17,7 @@ use Rattle.model.specs.Commit.{committedSam, changedOf}
 use Rattle.model.specs.Valid.{valid}
 use Rattle.model.specs.Disk.{durable}
 use Rattle.model.specs.Calls.Opening.{openError}
-use Rattle.crash_safety.specs.Ledger.{Sets, noSets, Counting, Ledger, setsOf, holders}
+use Rattle.crash_safety.specs.Ledger.{Sets, noSets, Counting, commitAt, Ledger, setsOf, holders}
 use Rattle.crash_safety.specs.World.{World, worldOf}
 
 -- every word fits 32 bits
@@ -43,7 +43,7 @@ pub record Past (memory : Memory) (ledger : Ledger) (s : ℕ) : Type 0 where
   pub uncounted : ledger .counting ≡ none
 
 abbrev pub countingOf : ℕ → ℕ → Option Counting
-countingOf s number = some (record { slot = s; number = number })
+countingOf s number = some (commitAt s number)
 
 -- by the pending work: a commit is under count, at its stores done, until its commit point, the store 2·d + 1
 abbrev pub PendingTied : Memory → Ledger → Pending → Type 0

@@ -2,14 +2,13 @@
 -- that memory and disk stay in order, and what the two say in use.
 pub mod Holders
 pub mod Invariant
-pub mod Refused
+pub mod Works
 pub mod Touching
 pub mod Start
 pub mod Precommit
 pub mod Rollback
 pub mod Deallocate
 pub mod Granting
-pub mod Allocate
 pub mod Reserve
 pub mod Count
 pub mod Committed
@@ -31,4 +30,5 @@ pub mod RevokeAlone
 pub mod Reservations
 pub mod PutBack
 pub mod Consequences
+pub mod Premises
 pub mod Histories

@@ -3,8 +3,7 @@ use Prim.Native.Nat.{ℕ, _<_}
 use native.Mathlib.Omega.{arith}
 use mathlib.Core.Path.{_≡_, refl, sym, ap, _∙_}
 use mathlib.Core.Bool.{true, false, true≢false}
-use mathlib.Core.List.{List, [], _∷_}
-use borrow.Author.Tests.{ne-eqb}
+use borrow.Author.Tests.{eq-eqb, ne-eqb}
 use Rattle.bitmap.specs.Sizes.{slotCount}
 use Rattle.model_types.specs.declared.memory.Memory.{Memory}
 use Rattle.model_types.specs.declared.memory.SlotState.the-variants.{Idle}
@@ -13,51 +12,51 @@ use Rattle.model_types.specs.declared.memory.Pending.the-variants.{Nothing, Com
 use Rattle.model_types.specs.Memory.{slotAt, isPrecommitted, reserveAt}
 use Rattle.model.specs.Valid.{pendingValid, valid}
 use Rattle.model.specs.Calls.Format.{formatDisk}
-use Rattle.model.specs.Outcome.{Call, openCall, startCall, allocateCall, allocateExtentCall, deallocateCall, precommitCall, commitCall, dropCall, revokeCall, storeCall, statusCall, commitCostCall, reserveCall, crashCall}
+use Rattle.model.specs.Outcome.{Call}
+use Rattle.model.specs.Work.{Work, openWork, crashWork, storeWork, commitWork, changeWork}
 use Rattle.model.specs.Reservations.{together, isCommitOf, changesTogether}
 use Rattle.model.proofs.Laws.Reservations.{idle-draws-none}
-use Rattle.model.proofs.Laws.ReservationStays.{together-stays}
-use Rattle.model.proofs.Laws.CommitOf.{elsewhere-stays}
+use Rattle.model.proofs.Laws.ReservationStays.{together-worked}
+use Rattle.model.proofs.Laws.Work.{Made, Fails}
+use Rattle.model.proofs.Laws.CommitOf.{elsewhere-worked}
 use Rattle.model.proofs.Laws.Valid.{valid-parts}
 use Rattle.model.proofs.Laws.Pending.{commit-parts}
-use Rattle.crash_safety.specs.World.{World, begin, step, run}
-use Rattle.crash_safety.specs.Reservations.{Each, CommitsNothing, PutBackWhole}
+use Rattle.crash_safety.specs.World.{World, begin, run}
+use Rattle.crash_safety.specs.Reservations.{settles, PutBackWhole}
+use Rattle.crash_safety.proofs.Works.{after, by-failing}
 use Rattle.crash_safety.proofs.Keeps.{run-keeps, begins-formatted}
-use Rattle.crash_safety.proofs.InOrder.Always.{run-uses}
-use Rattle.crash_safety.proofs.Reservations.{no-crash}
+use Rattle.crash_safety.proofs.InOrder.Always.{uses-without}
 
 -- what is reserved and drawn for slot s is so much together, and its commit isn't pending
 record Whole (s total : ℕ) (w : World) : Type 0 where
   pub sum : together (w .memory) s ≡ total
   pub elsewhere : isCommitOf s (w .memory .pending) ≡ false
 
--- none of these calls changes that
-commits-nothing : (s : ℕ) (call : Call) (pending : Pending) → CommitsNothing s call → isCommitOf s pending ≡ false → changesTogether s call pending ≡ false
-unfolding changesTogether
-commits-nothing s openCall pending n e = absurd (n .no-open refl)
-commits-nothing s (startCall t) pending n e = refl
-commits-nothing s (allocateCall t count list) pending n e = refl
-commits-nothing s (allocateExtentCall t count near list) pending n e = refl
-commits-nothing s (deallocateCall t block) pending n e = refl
-commits-nothing s (precommitCall t) pending n e = refl
-commits-nothing s (commitCall t) pending n e = ne-eqb t s (λ q. n .no-commit (ap commitCall q))
-commits-nothing s (dropCall t) pending n e = refl
-commits-nothing s (revokeCall t) pending n e = refl
-commits-nothing s storeCall pending n e = e
-commits-nothing s statusCall pending n e = refl
-commits-nothing s (commitCostCall t count) pending n e = refl
-commits-nothing s (reserveCall t reservation) pending n e = ne-eqb t s (λ q. n .no-reserve reservation (ap (λ (x : ℕ). reserveCall x reservation) q))
-commits-nothing s crashCall pending n e = absurd (n .no-crash refl)
+-- no other work than those that settle it changes that
+leaves-whole : (s : ℕ) (new : Work) (pending : Pending) → settles s new pending ≡ false → isCommitOf s pending ≡ false → changesTogether s new pending ≡ false
+unfolding settles changesTogether
+leaves-whole s openWork pending f e = f
+leaves-whole s crashWork pending f e = f
+leaves-whole s storeWork pending f e = e
+leaves-whole s (commitWork t) pending f e = f
+leaves-whole s (changeWork t change) pending f e = f
 
-run-whole : (s total : ℕ) (calls : List Call) (w : World) → Each (CommitsNothing s) calls → Whole s total w → Whole s total (run calls w)
-unfolding run step
-run-whole s total [] w all whole = whole
-run-whole s total (call ∷ calls) w (here, rest) whole =
-    run-whole s total calls (step call w) rest
-    (record {
-      sum = together-stays s call (w .memory) (w .disk) (commits-nothing s call (w .memory .pending) here (whole .elsewhere)) ∙ whole .sum;
-      elsewhere = elsewhere-stays s call (w .memory) (w .disk) (here .no-commit) (whole .elsewhere);
-    })
+-- none of them is a commit of the slot, or a crash
+no-commit : (s : ℕ) (new : Work) (pending : Pending) → settles s new pending ≡ false → new ≡ commitWork s → ⊥
+unfolding settles
+no-commit s new pending f e = true≢false (sym (eq-eqb s s refl) ∙ sym (ap (λ (x : Work). settles s x pending) e) ∙ f)
+
+no-crash : (s : ℕ) (new : Work) (pending : Pending) → settles s new pending ≡ false → new ≡ crashWork → ⊥
+unfolding settles
+no-crash s new pending f e = true≢false (sym (ap (λ (x : Work). settles s x pending) e) ∙ f)
+
+work-whole : (s total : ℕ) (w : World) (call : Call) (new : Work) → Made call new (w .memory) (w .disk) → Fails (settles s) new (w .memory)
+    → Whole s total w → Whole s total (after new w)
+work-whole s total w call new m f whole =
+    record {
+      sum = together-worked s (w .memory) new (w .disk) (leaves-whole s new (w .memory .pending) f (whole .elsewhere)) ∙ whole .sum;
+      elsewhere = elsewhere-worked s new (w .memory) (w .disk) (no-commit s new (w .memory .pending) f) (whole .elsewhere);
+    }
 
 -- of an idle slot no commit is pending, and it has drawn nothing
 module _ (memory : Memory) (is-valid : valid memory ≡ true) (s : ℕ) (idle : slotAt memory s .state ≡ Idle) where
@@ -72,11 +71,11 @@ module _ (memory : Memory) (is-valid : valid memory ≡ true) (s : ℕ) (idle : 
   idle-sum below = omega (arith, idle-draws-none memory is-valid s below idle)
 
 pub put-back-whole : PutBackWhole
-put-back-whole blocks some-blocks few disk size before c s below idle calls all still =
+put-back-whole blocks some-blocks few disk size before c s below idle calls without still =
     let first : World = begin (formatDisk disk blocks) in
     let w : World = run before first in
     let i = run-keeps before first (begins-formatted blocks some-blocks few disk size) in
     let pending = valid-parts (w .memory) (c .is-valid) .pending-valid in
-    let whole = run-whole s (together (w .memory) s) calls w all (record { sum = refl; elsewhere = idle-elsewhere (w .memory) (c .is-valid) s idle (w .memory .pending) pending }) in
-    let later = run-uses calls w (no-crash _ (λ call n. n .no-crash) calls all) i c in
+    let whole = by-failing (Whole s (together (w .memory) s)) (settles s) (work-whole s (together (w .memory) s)) calls w without (record { sum = refl; elsewhere = idle-elsewhere (w .memory) (c .is-valid) s idle (w .memory .pending) pending }) in
+    let later = uses-without (settles s) (no-crash s) calls w without i c in
     sym (idle-sum (run calls w .memory) (later .is-valid) s still below) ∙ whole .sum ∙ idle-sum (w .memory) (c .is-valid) s idle below

@@ -20,17 +20,16 @@ use Rattle.model_types.specs.declared.memory.Pending.{Pending}
 use Rattle.model_types.specs.declared.memory.Pending.the-variants.{Commit}
 use Rattle.model.specs.Sizes.{diskWords}
 use Rattle.model_types.specs.Memory.{slotAt, isActive, samBit, withPending}
-use Rattle.model.specs.Stores.{writes, after, commitStores}
+use Rattle.model.specs.Stores.{writes, commitStores}
 use Rattle.model.specs.Commit.{committedSam, entriesOf, changedOf, committed}
 use Rattle.model.specs.Pending.{storesDone, storesDue, oneMoreDone, finished}
-use Rattle.model.specs.Valid.{sameWords}
-use Rattle.model.specs.Disk.{durable, baseImage}
+use Rattle.model.specs.Disk.{durable, imageMatches}
 use Rattle.model.specs.Calls.Opening.{openError}
 use Rattle.model.specs.Calls.Storing.{advanced}
 use Rattle.model.proofs.Laws.Valid.{ValidParts}
 use Rattle.model.proofs.Laws.Commit.{committed-bits}
 use Rattle.model.proofs.Laws.Pending.{CommitParts, precommitted-active, precommitted-below}
-use Rattle.crash_safety.specs.Ledger.{Sets, noSets, Ledger, setsOf, commits, stores, withCounting, holders}
+use Rattle.crash_safety.specs.Ledger.{Sets, noSets, Ledger, setsOf, commits, countsStore, stores, withCounting, holders}
 use Rattle.crash_safety.specs.World.{World, worldOf}
 use Rattle.crash_safety.proofs.Invariant.{Tied, Plain, Past, PendingTied, Related, Invariant, countingOf}
 use Rattle.crash_safety.proofs.Committed.{committed-related}
@@ -53,7 +52,7 @@ module _ (w : World) (s k due : ℕ) (i : Invariant w)
     (eight : length (w .memory .slots) ≡ slotCount)
     (commit : CommitParts (w .memory) s k due)
     (size : length (w .disk) ≡ diskWords)
-    (matches : sameWords (w .disk) (after k (commitStores (entriesOf (w .memory) s)) (baseImage (w .memory .blocks) (w .memory .sam .words) (w .disk))) ≡ true) where
+    (matches : imageMatches (w .memory .blocks) (w .memory .sam .words) (w .disk) k (commitStores (entriesOf (w .memory) s)) ≡ true) where
   -- d
   abbrev d : ℕ
   d = changedOf (w .memory) s
@@ -165,7 +164,7 @@ module _ (w : World) (s k due : ℕ) (i : Invariant w)
   counted : Plain (w .memory) (w .ledger) (countingOf s k)
       → stores (w .ledger) (w .ledger .counting)
       ≡ cond (eqb (k + 1) (2 * d + 1)) (commits (w .ledger) s) (withCounting (w .ledger) (countingOf s (k + 1)))
-  unfolding stores
+  unfolding stores countsStore
   counted plain =
       ap (stores (w .ledger)) (plain .counted)
       ∙ ap

@@ -2,46 +2,43 @@
 -- at most that many." Here whatever calls come in between, of this slot and of all others.
 use Prim.Native.Nat.{ℕ, _+_, _≤_}
 use mathlib.Core.Path.{_≡_}
-use mathlib.Core.Bool.{cond}
+use mathlib.Core.Bool.{Bool, true, false, cond}
 use mathlib.Core.List.{List, [], _∷_}
 use lib.Dec.{eqb}
+use Rattle.model_types.specs.declared.memory.Pending.{Pending}
 use Rattle.model_types.specs.declared.answer.StoresAnswer.{StoresAnswer}
 use Rattle.model.specs.Calls.Committing.{commitAnswer}
 use Rattle.model.specs.Calls.CommitCost.{commitCostAnswer}
 use Rattle.model.specs.CostKept.{CostKept}
-use Rattle.model.specs.Outcome.{Call, outcome, openCall, startCall, allocateCall, allocateExtentCall, deallocateCall, precommitCall, commitCall, dropCall, revokeCall, storeCall, statusCall, commitCostCall, reserveCall, crashCall}
-use Rattle.crash_safety.specs.World.{World, step, run}
+use Rattle.model.specs.Outcome.{Call}
+use Rattle.model.specs.Work.{Work, openWork, crashWork, storeWork, commitWork, changeWork, blocksTouched, worksIn}
+use Rattle.crash_safety.specs.World.{World, run, Without}
 use Rattle.crash_safety.specs.InOrder.{AfterEvery}
 
--- the blocks that a call, if it is accepted, touches for slot s: an allocate, of an extent or not, as many as its
--- count, a deallocate one
-unfoldable pub touchesFor : ℕ → Call → ℕ
-touchesFor s openCall = 0
-touchesFor s (startCall t) = 0
-touchesFor s (allocateCall t count list) = cond (eqb t s) count 0
-touchesFor s (allocateExtentCall t count near list) = cond (eqb t s) count 0
-touchesFor s (deallocateCall t block) = cond (eqb t s) 1 0
-touchesFor s (precommitCall t) = 0
-touchesFor s (commitCall t) = 0
-touchesFor s (dropCall t) = 0
-touchesFor s (revokeCall t) = 0
-touchesFor s storeCall = 0
-touchesFor s statusCall = 0
-touchesFor s (commitCostCall t count) = 0
-touchesFor s (reserveCall t reservation) = 0
-touchesFor s crashCall = 0
+-- the blocks that a work touches for slot s
+unfoldable pub touchesFor : ℕ → Work → ℕ
+touchesFor s openWork = 0
+touchesFor s crashWork = 0
+touchesFor s storeWork = 0
+touchesFor s (commitWork t) = 0
+touchesFor s (changeWork t change) = cond (eqb t s) (blocksTouched change) 0
 
--- all that the accepted calls of a list touch for it
-unfoldable pub touchesIn : ℕ → List Call → World → ℕ
-touchesIn s [] w = 0
-touchesIn s (call ∷ calls) w =
-    cond (eqb (outcome call (w .memory) (w .disk) .number) 0) (touchesFor s call) 0
-    + touchesIn s calls (step call w)
+-- all that some works touch for it
+unfoldable pub touchesOf : ℕ → List Work → ℕ
+touchesOf s [] = 0
+touchesOf s (new ∷ rest) = touchesFor s new + touchesOf s rest
 
--- no call of a list is an open or a crash: these end every transaction
-abbrev pub SameUse : List Call → Type 0
-SameUse [] = Unit {0}
-SameUse (call ∷ calls) = (call ≡ openCall → ⊥) × (call ≡ crashCall → ⊥) × SameUse calls
+-- and the calls of a list
+abbrev pub touchesIn : ℕ → List Call → World → ℕ
+touchesIn s calls w = touchesOf s (worksIn calls (w .memory) (w .disk))
+
+-- whether a work is an open or a crash: these end every transaction
+unfoldable pub endsUse : Work → Pending → Bool
+endsUse openWork pending = true
+endsUse crashWork pending = true
+endsUse storeWork pending = false
+endsUse (commitWork t) pending = false
+endsUse (changeWork t change) pending = false
 
 -- after every list of calls: where commit cost answers so many for a slot and a count, the calls right behind it are accepted,
 -- and the commit answers at most so many
@@ -49,11 +46,11 @@ abbrev pub CommitCostKeptInUse : Type 0
 CommitCostKeptInUse =
     AfterEvery (λ w. (s count cost : ℕ) → commitCostAnswer (w .memory) s count ≡ StoresAnswer.Due cost → CostKept (w .memory) s count cost)
 
--- and after every list of calls: where commit cost answers so many for a slot and a count, and calls of any slots follow that touch
--- no more than the count for this slot, then its commit, if it is accepted, answers at most so many
+-- and after every list of calls: where commit cost answers so many for a slot and a count, and calls of any slots follow, no open and no
+-- crash, that touch no more than the count for this slot, then its commit, if it is accepted, answers at most so many
 abbrev pub CommitCostHolds : Type 0
 CommitCostHolds =
     AfterEvery (λ w.
     (s count cost : ℕ) → commitCostAnswer (w .memory) s count ≡ StoresAnswer.Due cost
-    → (calls : List Call) → SameUse calls → touchesIn s calls w ≤ count
+    → (calls : List Call) → Without endsUse calls w → touchesIn s calls w ≤ count
     → (stores : ℕ) → commitAnswer (run calls w .memory) s ≡ StoresAnswer.Due stores → stores ≤ cost)

@@ -4,7 +4,7 @@
 use Prim.Native.Nat.{ℕ, zero, suc, _+_, _*_, _/_}
 use mathlib.Core.Bool.{Bool, false, cond, _||_}
 use mathlib.Core.Option.{Option, none, some}
-use mathlib.Core.List.{List, [], _∷_, _++_}
+use mathlib.Core.List.{List, [], _∷_, _++_, map}
 use lib.ListN.{getD, set, replicate}
 use lib.Dec.{eqb}
 use Rattle.bitmap.specs.Sizes.{bitmapWords, slotCount}
@@ -13,13 +13,14 @@ use Rattle.bitmap.specs.Blocks.{member}
 pub data Kind : Type 0 where
   opening starting allocating deallocating precommitting committing rolling storing asking reserving crashing : Kind
 
--- what the ledger is fed of a call: its kind, slot and block, its answer's number, and the numbers that an allocate, of an
+-- what the ledger is fed of a call: its kind, slot and block, its answer's number and value, and the numbers that an allocate, of an
 -- extent or not, lists
 pub record Event : Type 0 where
   pub kind : Kind
   pub slot : ℕ
   pub block : ℕ
   pub answer : ℕ
+  pub value : ℕ
   pub listed : List ℕ
 
 -- a slot's sets taken and freed (document 01: given back)
@@ -27,10 +28,9 @@ pub record Sets : Type 0 where
   pub taken : List ℕ
   pub freed : List ℕ
 
--- a commit under count: its slot and its number
-pub record Counting : Type 0 where
-  pub slot : ℕ
-  pub number : ℕ
+-- what is under count: a commit, by its slot and its number
+pub data Counting : Type 0 where
+  commitAt : ℕ → ℕ → Counting
 
 -- "It holds a set A, for each seat a set taken and a set given back, and a commit under count: none, or a seat and a number."
 -- A is `allocated`
@@ -54,9 +54,13 @@ setsOf ledger s = getD (ledger .slots) s noSets
 abbrev pub ledgerOf : List ℕ → List Sets → Option Counting → Ledger
 ledgerOf allocated slots counting = record { allocated = allocated; slots = slots; counting = counting }
 
+-- what a crash leaves of a slot's sets
+unfoldable pub crashedSets : Sets → Sets
+crashedSets sets = noSets
+
 -- "every seat's sets are emptied, the count is none"
-unfoldable pub emptied : Ledger → Ledger
-emptied ledger = ledgerOf (ledger .allocated) (replicate slotCount noSets) none
+unfoldable pub crashed : Ledger → Ledger
+crashed ledger = ledgerOf (ledger .allocated) (map crashedSets (ledger .slots)) none
 
 -- "At first every set is empty and the count is none."
 abbrev pub emptyLedger : Ledger
@@ -100,7 +104,7 @@ frees ledger s block = withSets ledger s (withFreed (setsOf ledger s) (setsOf le
 
 -- "Commit: If d is 0, nothing alters; else the seat is under count, at 0."
 unfoldable pub counts : Ledger → ℕ → Ledger
-counts ledger s = cond (eqb (setsWords (setsOf ledger s)) 0) ledger (withCounting ledger (some (record { slot = s; number = 0 })))
+counts ledger s = cond (eqb (setsWords (setsOf ledger s)) 0) ledger (withCounting ledger (some (commitAt s 0)))
 
 -- the commit point (document 01: the mark store): "A loses what the seat gave back and gains what it took, both its sets
 -- are emptied, the count is none."
@@ -111,32 +115,34 @@ commits ledger s =
     (set (ledger .slots) s noSets)
     none
 
--- "Store: a number under count rises by 1. At 2·d + 1 this is the mark store"
+-- one store more of what is under count: "a number under count rises by 1. At 2·d + 1 this is the mark store"
+unfoldable pub countsStore : Ledger → Counting → Ledger
+countsStore ledger (commitAt s number) =
+    cond (eqb (number + 1) (2 * setsWords (setsOf ledger s) + 1)) (commits ledger s) (withCounting ledger (some (commitAt s (number + 1))))
+
+-- "Store": where nothing is under count, nothing alters
 unfoldable pub stores : Ledger → Option Counting → Ledger
 stores ledger none = ledger
-stores ledger (some counting) =
-    cond (eqb (counting .number + 1) (2 * setsWords (setsOf ledger (counting .slot)) + 1))
-    (commits ledger (counting .slot))
-    (withCounting ledger (some (record { slot = counting .slot; number = counting .number + 1 })))
+stores ledger (some counting) = countsStore ledger counting
 
 -- what an accepted call, or a crash, alters. "start, precommit, status: nothing alters"; a commit cost asks as status does. Nor does a
 -- reserve (document 02, job 7), which touches no block
-unfoldable pub entered : Kind → ℕ → ℕ → List ℕ → Ledger → Ledger
-entered opening s block listed ledger = emptied ledger
-entered starting s block listed ledger = ledger
-entered allocating s block listed ledger = takes ledger s listed
-entered deallocating s block listed ledger = frees ledger s block
-entered precommitting s block listed ledger = ledger
-entered committing s block listed ledger = counts ledger s
-entered rolling s block listed ledger = withSets ledger s noSets
-entered storing s block listed ledger = stores ledger (ledger .counting)
-entered asking s block listed ledger = ledger
-entered reserving s block listed ledger = ledger
-entered crashing s block listed ledger = emptied ledger
+unfoldable pub entered : Kind → Event → Ledger → Ledger
+entered opening event ledger = crashed ledger
+entered starting event ledger = ledger
+entered allocating event ledger = takes ledger (event .slot) (event .listed)
+entered deallocating event ledger = frees ledger (event .slot) (event .block)
+entered precommitting event ledger = ledger
+entered committing event ledger = counts ledger (event .slot)
+entered rolling event ledger = withSets ledger (event .slot) noSets
+entered storing event ledger = stores ledger (ledger .counting)
+entered asking event ledger = ledger
+entered reserving event ledger = ledger
+entered crashing event ledger = crashed ledger
 
 -- "Refused call: nothing alters."
 unfoldable pub enter : Event → Ledger → Ledger
-enter event ledger = cond (eqb (event .answer) 0) (entered (event .kind) (event .slot) (event .block) (event .listed) ledger) ledger
+enter event ledger = cond (eqb (event .answer) 0) (entered (event .kind) event ledger) ledger
 
 -- one event after the other
 unfoldable pub enterAll : List Event → Ledger → Ledger
@@ -145,7 +151,7 @@ enterAll (event ∷ events) ledger = enterAll events (enter event ledger)
 
 -- a crash
 abbrev pub crashEvent : Event
-crashEvent = record { kind = crashing; slot = 0; block = 0; answer = 0; listed = [] }
+crashEvent = record { kind = crashing; slot = 0; block = 0; answer = 0; value = 0; listed = [] }
 
 -- how many slots have a block in their taken
 unfoldable pub takers : ℕ → List Sets → ℕ

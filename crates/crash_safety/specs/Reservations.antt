@@ -3,23 +3,22 @@
 -- and no more drawn than taken, is part of AlwaysInOrder: both are clauses of a valid memory.
 use Prim.Native.Nat.{ℕ, _<_}
 use mathlib.Core.Path.{_≡_}
-use mathlib.Core.List.{List, [], _∷_}
+use mathlib.Core.Bool.{Bool, true, false, _&&_}
+use mathlib.Core.List.{List}
 use lib.ListN.{length}
+use lib.Dec.{eqb}
 use Rattle.bitmap.specs.Sizes.{slotCount}
 use Rattle.model_types.specs.declared.memory.Memory.{Memory}
 use Rattle.model_types.specs.declared.memory.SlotState.the-variants.{Idle}
+use Rattle.model_types.specs.declared.memory.Pending.{Pending}
 use Rattle.model_types.specs.declared.answer.Answer.{Answer}
 use Rattle.model_types.specs.Memory.{slotAt, reserveAt}
 use Rattle.model.specs.Calls.Reserve.{reserveAnswer}
-use Rattle.model.specs.Reservations.{MayAsk, Allocates}
-use Rattle.model.specs.Outcome.{Call, openCall, allocateCall, allocateExtentCall, commitCall, dropCall, revokeCall, reserveCall, crashCall}
-use Rattle.crash_safety.specs.World.{World, step, run}
+use Rattle.model.specs.Reservations.{MayAsk, Allocates, changesReservation}
+use Rattle.model.specs.Outcome.{Call, reserveCall}
+use Rattle.model.specs.Work.{Work, openWork, crashWork, storeWork, commitWork, changeWork, bearing, setsAside}
+use Rattle.crash_safety.specs.World.{World, step, run, Without}
 use Rattle.crash_safety.specs.InOrder.{InUse, AfterEvery}
-
--- each call of a list is of this kind
-abbrev pub Each : (Call → Type 0) → List Call → Type 0
-Each Kind [] = Unit {0}
-Each Kind (call ∷ calls) = Kind call × Each Kind calls
 
 -- there is a reserve for each slot
 abbrev pub EightReserves : Type 0
@@ -33,20 +32,12 @@ MayAllocate memory s = (count : ℕ) (list : List ℕ) → MayAsk memory s count
 abbrev pub MayAlwaysAllocateInUse : Type 0
 MayAlwaysAllocateInUse = AfterEvery (λ w. InUse w → (s : ℕ) → MayAllocate (w .memory) s)
 
--- a call that is neither an open nor a crash, nor a reserve, an allocate, of an extent or not, a drop or a revoke of slot s
-pub record LeavesReservation (s : ℕ) (call : Call) : Type 0 where
-  pub no-open : call ≡ openCall → ⊥
-  pub no-crash : call ≡ crashCall → ⊥
-  pub no-reserve : (reservation : ℕ) → call ≡ reserveCall s reservation → ⊥
-  pub no-allocate : (count : ℕ) (list : List ℕ) → call ≡ allocateCall s count list → ⊥
-  pub no-extent : (count near : ℕ) (list : List ℕ) → call ≡ allocateExtentCall s count near list → ⊥
-  pub no-drop : call ≡ dropCall s → ⊥
-  pub no-revoke : call ≡ revokeCall s → ⊥
-
--- after every list of calls: no such call changes the slot's reservation, refused or not, whatever the other slots take, commit and drop
+-- after every list of calls: calls that do no work which may change the slot's reservation leave it (changesReservation in
+-- crates/model/specs/Reservations.antt: an open, a crash, and of this slot a reserve, a grant and a rollback), whatever the other slots
+-- take, commit and drop, and whatever this one is refused
 abbrev pub ReservationKept : Type 0
 ReservationKept =
-    AfterEvery (λ w. (s : ℕ) (calls : List Call) → Each (LeavesReservation s) calls
+    AfterEvery (λ w. (s : ℕ) (calls : List Call) → Without (changesReservation s) calls w
     → reserveAt (run calls w .memory) s .reservation ≡ reserveAt (w .memory) s .reservation)
 
 -- slot s has this reservation, and may allocate up to it once it is open
@@ -58,19 +49,21 @@ pub record Has (s reservation : ℕ) (w : World) : Type 0 where
 abbrev pub ReserveHolds : Type 0
 ReserveHolds =
     AfterEvery (λ w. (s reservation : ℕ) → reserveAnswer (w .memory) s reservation ≡ Answer.Done
-    → (calls : List Call) → Each (LeavesReservation s) calls → Has s reservation (run calls (step (reserveCall s reservation) w)))
+    → (calls : List Call) → Without (changesReservation s) calls (step (reserveCall s reservation) w)
+    → Has s reservation (run calls (step (reserveCall s reservation) w)))
 
--- a call that is neither an open nor a crash, nor a reserve or a commit of slot s
-pub record CommitsNothing (s : ℕ) (call : Call) : Type 0 where
-  pub no-open : call ≡ openCall → ⊥
-  pub no-crash : call ≡ crashCall → ⊥
-  pub no-reserve : (reservation : ℕ) → call ≡ reserveCall s reservation → ⊥
-  pub no-commit : call ≡ commitCall s → ⊥
+-- whether a work is an open or a crash, or a reserve or a commit of slot s
+unfoldable pub settles : ℕ → Work → Pending → Bool
+settles s openWork pending = true
+settles s crashWork pending = true
+settles s storeWork pending = false
+settles s (commitWork t) pending = eqb t s
+settles s (changeWork t change) pending = eqb t s && setsAside (bearing change)
 
 -- and after every list of calls, in use: "a drop or revoke puts back what that transaction used of it". Whatever an idle slot takes in
--- such calls, if it is idle after them it has its whole reservation again
+-- calls that do no such work, if it is idle after them it has its whole reservation again
 abbrev pub PutBackWhole : Type 0
 PutBackWhole =
     AfterEvery (λ w. InUse w → (s : ℕ) → s < slotCount → slotAt (w .memory) s .state ≡ Idle
-    → (calls : List Call) → Each (CommitsNothing s) calls → slotAt (run calls w .memory) s .state ≡ Idle
+    → (calls : List Call) → Without (settles s) calls w → slotAt (run calls w .memory) s .state ≡ Idle
     → reserveAt (run calls w .memory) s .reservation ≡ reserveAt (w .memory) s .reservation)

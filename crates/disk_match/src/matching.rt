@@ -1,13 +1,13 @@
 // A disk compared with SAM, and with SAM and a commit's stores: cause 6.
 ghost use mathlib.Core.Path.{_≡_};
+ghost use mathlib.Core.List.{[]};
 ghost use Prim.Native.Nat.{_<_};
 ghost use lib.ListN.{length};
 ghost use Rattle.bitmap.specs.Bits.{IsBitmap};
 ghost use Rattle.model.specs.Sizes.{diskWords};
 ghost use Rattle.model_types.specs.Pending.{storesFor};
-ghost use Rattle.model.specs.Stores.{after, changes, commitStores};
-ghost use Rattle.model.specs.Valid.{sameWords};
-ghost use Rattle.model.specs.Disk.{baseImage};
+ghost use Rattle.model.specs.Stores.{changes, commitStores};
+ghost use Rattle.model.specs.Disk.{imageMatches};
 use crate::head::head_matches;
 use crate::progress::checkpointed_after;
 use crate::progress::length_after;
@@ -21,7 +21,7 @@ use model_types::memory::Pending;
 pub fn settled_matches(disk: &[u32], blocks: u32, sam: &[u32; 128]) -> bool
     requires { ⌜ length (now disk) ≡ diskWords ⌝ }
     requires { ⌜ IsBitmap (now sam) ⌝ }
-    ensures { λ r. ⌜ r ≡ sameWords (now (disk .entry)) (baseImage blocks (now (sam .entry)) (now (disk .entry))) ⌝ }
+    ensures { λ r. ⌜ r ≡ imageMatches blocks (now (sam .entry)) (now (disk .entry)) 0 [] ⌝ }
 {
     if !head_matches(disk, blocks, 0) {
         return false;
@@ -44,7 +44,7 @@ pub fn commit_matches(
     requires { ⌜ IsBitmap (now new) ⌝ }
     requires { ⌜ due ≡ storesFor (length (changes (now sam) (now new))) ⌝ }
     requires { ⌜ done < due ⌝ }
-    ensures { λ r. ⌜ r ≡ sameWords (now (disk .entry)) (after done (commitStores (changes (now (sam .entry)) (now (new .entry)))) (baseImage blocks (now (sam .entry)) (now (disk .entry)))) ⌝ }
+    ensures { λ r. ⌜ r ≡ imageMatches blocks (now (sam .entry)) (now (disk .entry)) done (commitStores (changes (now (sam .entry)) (now (new .entry)))) ⌝ }
 {
     let changed = Pending::changed_for(due);
     if !head_matches(disk, blocks, length_after(changed, done)) {

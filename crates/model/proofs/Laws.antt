@@ -32,11 +32,17 @@ pub mod TouchedBy
 pub mod CommitCost
 pub mod Extents
 pub mod Granting
+pub mod Work
+pub mod Change
+pub mod ChangeMade
 pub mod DropRevoke
 pub mod NextFit
 pub mod ForOthers
 pub mod Reservations
 pub mod ReservationStays
 pub mod CommitOf
+pub mod DueStores
+pub mod Progress
+pub mod Stored
 pub mod Opened
 pub mod Rows

@@ -1,25 +1,27 @@
--- Document 01's table, "Causes of refusal", and the causes that document 02 adds: when each holds. What a call tests is in Calls/.
+-- Document 01's table, "Causes of refusal", and the causes that document 02 adds: when each holds, told by the parts of a memory that
+-- code tests. The lists that calls share are in CauseLists.antt, what a call tests is in Calls/.
 use Prim.Native.Nat.{ℕ, _-_}
 use mathlib.Core.Bool.{Bool, not, _&&_}
 use mathlib.Core.List.{List}
 use lib.ListN.{length}
 use lib.Dec.{leb, ltb, eqb}
 use Rattle.bitmap.specs.Sizes.{maxCount, blocksInRange, countInRange, slotInRange}
-use Rattle.bitmap.specs.Bits.{noBitsFrom}
-use Rattle.bitmap.specs.Blocks.{isAvailable}
+use Rattle.bitmap.specs.Bits.{bit, noBitsFrom}
+use Rattle.bitmap.specs.Blocks.{isAvailable, availableBlocks}
 use Rattle.bitmap.specs.Extents.{starts}
-use Rattle.model.specs.Types.{Memory}
+use Rattle.model.specs.Types.{SlotState, Pending, Memory}
 use Rattle.model.specs.Sizes.{diskWords}
-use Rattle.model_types.specs.Memory.{slotAt, isActive, isPrecommitted, samBit, comBit}
-use Rattle.model.specs.Available.{available}
-use Rattle.model.specs.Reserves.{totalReserved, othersReserved, reserving}
-use Rattle.model.specs.Valid.{valid}
+use Rattle.model_types.specs.Memory.{isActive, isPrecommitted}
 use Rattle.model_types.specs.Pending.{isNothing}
-use Rattle.model.specs.Disk.{diskBlocks, diskBitmap, logValid, diskMatches}
+use Rattle.model.specs.Disk.{diskBlocks, diskBitmap, logValid, partsMatch}
 
--- 1, "memory not fit"
-unfoldable pub memoryInvalid : Memory → Bool
-memoryInvalid memory = not (valid memory)
+-- of a memory's block count, SAM and COM
+abbrev pub ofVolume : {A : Type 0} → (ℕ → List ℕ → List ℕ → A) → Memory → A
+ofVolume told memory = told (memory .blocks) (memory .sam .words) (memory .com .words)
+
+-- 1, "memory not fit", by whether it is valid
+unfoldable pub memoryInvalid : Bool → Bool
+memoryInvalid sound = not sound
 
 -- 2, "medium not 386 words"
 unfoldable pub diskLengthWrong : List ℕ → Bool
@@ -38,40 +40,41 @@ unfoldable pub diskLogWrong : List ℕ → Bool
 diskLogWrong disk = not (logValid disk)
 
 -- 6, "words 0 to 129 and the log words written aren't as this memory and its stores done leave them; in recovery .."
-unfoldable pub diskMismatched : Memory → List ℕ → Bool
-diskMismatched memory disk = not (diskMatches memory disk (memory .pending))
+-- by the block count, SAM, the SAM that a pending commit makes, the disk and the pending work
+unfoldable pub diskMismatched : ℕ → List ℕ → List ℕ → List ℕ → Pending → Bool
+diskMismatched blocks sam new disk pending = not (partsMatch blocks sam new disk pending)
 
 -- 7, "asked m outside 1 to 4,096"
 unfoldable pub blocksOutOfRange : ℕ → Bool
 blocksOutOfRange blocks = not (blocksInRange blocks)
 
 -- 9, "no store work in hand"
-unfoldable pub nothingPending : Memory → Bool
-nothingPending memory = isNothing (memory .pending)
+unfoldable pub nothingPending : Pending → Bool
+nothingPending pending = isNothing pending
 
 -- 8, "store work in hand"
-unfoldable pub workPending : Memory → Bool
-workPending memory = not (nothingPending memory)
+unfoldable pub workPending : Pending → Bool
+workPending pending = not (nothingPending pending)
 
 -- 10, "seat above 7"
 unfoldable pub slotOutOfRange : ℕ → Bool
 slotOutOfRange s = not (slotInRange s)
 
 -- 11, "seat not idle"
-unfoldable pub slotActive : Memory → ℕ → Bool
-slotActive memory s = isActive (slotAt memory s .state)
+unfoldable pub slotActive : SlotState → Bool
+slotActive state = isActive state
 
 -- 12, "seat idle"
-unfoldable pub slotInactive : Memory → ℕ → Bool
-slotInactive memory s = not (slotActive memory s)
+unfoldable pub slotInactive : SlotState → Bool
+slotInactive state = not (slotActive state)
 
 -- 13, "seat precommitted"
-unfoldable pub slotPrecommitted : Memory → ℕ → Bool
-slotPrecommitted memory s = isPrecommitted (slotAt memory s .state)
+unfoldable pub slotPrecommitted : SlotState → Bool
+slotPrecommitted state = isPrecommitted state
 
 -- 14, "seat not precommitted"
-unfoldable pub slotNotPrecommitted : Memory → ℕ → Bool
-slotNotPrecommitted memory s = not (slotPrecommitted memory s)
+unfoldable pub slotNotPrecommitted : SlotState → Bool
+slotNotPrecommitted state = not (slotPrecommitted state)
 
 -- 15, "count outside 1 to 64"
 unfoldable pub countOutOfRange : ℕ → Bool
@@ -86,20 +89,20 @@ unfoldable pub listShort : List ℕ → ℕ → Bool
 listShort list count = ltb (length list) count
 
 -- 17, "fewer grantable blocks than the count"
-unfoldable pub tooFewAvailable : Memory → ℕ → Bool
-tooFewAvailable memory count = ltb (length (available memory)) count
+unfoldable pub tooFewAvailable : ℕ → List ℕ → List ℕ → ℕ → Bool
+tooFewAvailable blocks sam «com» count = ltb (length (availableBlocks blocks sam «com»)) count
 
 -- 18, "block m or above"
-unfoldable pub blockOutOfRange : Memory → ℕ → Bool
-blockOutOfRange memory b = leb (memory .blocks) b
+unfoldable pub blockOutOfRange : ℕ → ℕ → Bool
+blockOutOfRange blocks b = leb blocks b
 
 -- 19, "SAM 0 there"
-unfoldable pub blockFree : Memory → ℕ → Bool
-blockFree memory b = not (samBit memory b)
+unfoldable pub blockFree : List ℕ → ℕ → Bool
+blockFree sam b = not (bit sam b)
 
 -- 20, "SAM 1 and COM 0 there"
-unfoldable pub blockFreeing : Memory → ℕ → Bool
-blockFreeing memory b = samBit memory b && not (comBit memory b)
+unfoldable pub blockFreeing : List ℕ → List ℕ → ℕ → Bool
+blockFreeing sam «com» b = bit sam b && not (bit «com» b)
 
 -- where the extents of so many available blocks start, lowest first
 unfoldable pub extentStarts : Memory → ℕ → List ℕ
@@ -109,10 +112,10 @@ extentStarts memory count = starts (isAvailable (memory .sam .words) (memory .co
 unfoldable pub noExtent : Memory → ℕ → Bool
 noExtent memory count = eqb (length (extentStarts memory count)) 0
 
--- 23 (document 02, job 7), "if the claims would then exceed the grantable blocks": once slot s has a reservation of so many
-unfoldable pub overReserved : Memory → ℕ → ℕ → Bool
-overReserved memory s reservation = ltb (length (available memory)) (totalReserved (reserving memory s reservation .reserves))
+-- 23 (document 02, job 7), "if the claims would then exceed the grantable blocks": they would add up to so much
+unfoldable pub overReserved : ℕ → List ℕ → List ℕ → ℕ → Bool
+overReserved blocks sam «com» total = ltb (length (availableBlocks blocks sam «com»)) total
 
--- 24 (job 7), "if a grant would leave fewer grantable blocks than the other seats' claims add up to"
-unfoldable pub reservedForOthers : Memory → ℕ → ℕ → Bool
-reservedForOthers memory s count = ltb (length (available memory) - count) (othersReserved (memory .reserves) s)
+-- 24 (job 7), "if a grant would leave fewer grantable blocks than the other seats' claims add up to": so much is reserved for them
+unfoldable pub reservedForOthers : ℕ → List ℕ → List ℕ → ℕ → ℕ → Bool
+reservedForOthers blocks sam «com» count reserved = ltb (length (availableBlocks blocks sam «com») - count) reserved

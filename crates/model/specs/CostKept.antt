@@ -7,7 +7,7 @@ use mathlib.Core.List.{List}
 use lib.ListN.{length, getD}
 use Rattle.bitmap.specs.Sizes.{slotCount, maxCount}
 use Rattle.bitmap.specs.Bits.{IsBitmap}
-use Rattle.model.specs.Types.{Open, Nothing, Memory, Answer, GrantAnswer, StoresAnswer}
+use Rattle.model.specs.Types.{Open, Nothing, Memory, GrantAnswer, StoresAnswer}
 use Rattle.model_types.specs.Memory.{slotAt, volumeWords}
 use Rattle.model_types.specs.Pending.{storesFor}
 use Rattle.model.specs.Reserves.{othersReserved}
@@ -21,7 +21,7 @@ use Rattle.model.specs.FourCounts.{OfValid}
 
 -- a precommit of slot s and then its commit are accepted, and the commit answers at most so many stores
 pub record CommitsWithin (memory : Memory) (s cost : ℕ) : Type 0 where
-  pub precommits : precommitAnswer memory s ≡ Answer.Done
+  pub precommits : precommitAnswer memory s ≡ StoresAnswer.Due 0
   pub stores : ℕ
   pub commits : commitAnswer (precommitMemory memory s) s ≡ StoresAnswer.Due stores
   pub within : stores ≤ cost

@@ -8,8 +8,8 @@ use Rattle.bitmap.specs.Sizes.{bitmapWords, wordsFor}
 use Rattle.bitmap.specs.Bits.{noBitsFrom}
 use Rattle.model.specs.Types.{Pending, Nothing, Commit, Recovery, Memory}
 use Rattle.model.specs.Sizes.{blocksAt, lengthAt, bitmapAt, logAt}
-use Rattle.model.specs.Stores.{Store, writes, after, commitStores, checkpointStores, _≔_}
-use Rattle.model.specs.Commit.{entriesOf}
+use Rattle.model.specs.Stores.{Store, writes, after, changes, commitStores, checkpointStores, _≔_}
+use Rattle.model.specs.Pending.{storesDone, newSam}
 use Rattle.model.specs.Valid.{sameWords}
 
 -- word 0
@@ -34,7 +34,7 @@ diskBitmap disk = take bitmapWords (drop bitmapAt disk)
 
 -- a disk's words from its four parts: word 0, word 1, words 2 to 129, and the log with all that follows
 abbrev pub diskOf : ℕ → ℕ → List ℕ → List ℕ → List ℕ
-diskOf blocks word words log = blocks ∷ word ∷ (words ++ log)
+diskOf blocks word words tail = blocks ∷ word ∷ (words ++ tail)
 
 -- the first n entries of a log
 unfoldable pub entriesIn : ℕ → List ℕ → List Store
@@ -56,28 +56,45 @@ entriesValid blocks low (entry ∷ entries) =
     && ltb (entry .value) (2 ^ (blocks - 32 * entry .place))
     && entriesValid blocks (suc (entry .place)) entries
 
--- cause 5 doesn't hold: p at most W, its numbers below W and strictly rising, no bit from m on
+-- what cause 5 asks of word 1 on a disk of m blocks: p isn't above W
+unfoldable pub wordOneValid : ℕ → ℕ → Bool
+wordOneValid blocks word = leb (lengthIn word) (wordsFor blocks)
+
+-- cause 5 doesn't hold: word 1 as above, the entries' numbers below W and strictly rising, no bit from m on
 unfoldable pub logValid : List ℕ → Bool
-logValid disk = leb (logLength disk) (wordsFor (diskBlocks disk)) && entriesValid (diskBlocks disk) 0 (logEntries disk)
+logValid disk = wordOneValid (diskBlocks disk) (wordOne disk) && entriesValid (diskBlocks disk) 0 (logEntries disk)
 
 -- the bitmap that a disk stands for: words 2 to 129 with the logged words written over them
 unfoldable pub durable : List ℕ → List ℕ
 durable disk = writes (logEntries disk) (diskBitmap disk)
 
+-- the stores of pending work, by parts of a memory: SAM, and the SAM that a pending commit makes
+unfoldable pub storesOf : List ℕ → List ℕ → List ℕ → Pending → List Store
+storesOf sam new disk Nothing = []
+storesOf sam new disk (Commit s done due) = commitStores (changes sam new)
+storesOf sam new disk (Recovery done due) = checkpointStores (logEntries disk)
+
+-- the disk after the next of them
+unfoldable pub nextDisk : List ℕ → List ℕ → List ℕ → Pending → List ℕ
+nextDisk sam new disk pending = writes (take 1 (drop (storesDone pending) (storesOf sam new disk pending))) disk
+
 -- the stores of this memory's pending work
 unfoldable pub dueStores : Memory → List ℕ → Pending → List Store
-dueStores memory disk Nothing = []
-dueStores memory disk (Commit s done due) = commitStores (entriesOf memory s)
-dueStores memory disk (Recovery done due) = checkpointStores (logEntries disk)
+dueStores memory disk pending = storesOf (memory .sam .words) (newSam memory pending) disk pending
 
 -- whether the entries of a log agree with a bitmap
 unfoldable pub entriesAgree : List ℕ → List Store → Bool
 entriesAgree words [] = true
 entriesAgree words (entry ∷ entries) = eqb (getD words (entry .place) 0) (entry .value) && entriesAgree words entries
 
--- the disk before the stores of a commit, by its own log words: those written since are written by the stores done
+-- the disk before the stores of a work, by its own words from the log on: those written since are written by the stores done
 abbrev pub baseImage : ℕ → List ℕ → List ℕ → List ℕ
 baseImage blocks sam disk = diskOf blocks 0 sam (drop logAt disk)
+
+-- "words 0 to 129 and the log words written": the work's stores done, made on m, 0, SAM and the disk's own words from the log on,
+-- give the disk itself
+unfoldable pub imageMatches : ℕ → List ℕ → List ℕ → ℕ → List Store → Bool
+imageMatches blocks sam disk done stores = sameWords disk (after done stores (baseImage blocks sam disk))
 
 -- "in recovery all p entries must pass cause 5 and agree with SAM, and logged map words still to be rewritten may hold any
 -- bits below m": with those words written, words 2 to 129 are SAM
@@ -90,9 +107,16 @@ recoveryMatches blocks sam disk done due =
     && noBitsFrom blocks (diskBitmap disk)
     && sameWords (writes (drop done (logEntries disk)) (diskBitmap disk)) sam
 
+-- whether a disk is as these stores of the work, done so far, leave it: by their image, but in recovery by the log
+unfoldable pub storesMatch : ℕ → List ℕ → List ℕ → List Store → Pending → Bool
+storesMatch blocks sam disk stores Nothing = imageMatches blocks sam disk 0 stores
+storesMatch blocks sam disk stores (Commit s done due) = imageMatches blocks sam disk done stores
+storesMatch blocks sam disk stores (Recovery done due) = recoveryMatches blocks sam disk done due
+
+-- cause 6 doesn't hold, by parts of a memory: its block count, SAM, and the SAM that a pending commit makes
+unfoldable pub partsMatch : ℕ → List ℕ → List ℕ → List ℕ → Pending → Bool
+partsMatch blocks sam new disk pending = storesMatch blocks sam disk (storesOf sam new disk pending) pending
+
 -- cause 6 doesn't hold: "words 0 to 129 and the log words written" are "as this memory and its stores done leave them"
 unfoldable pub diskMatches : Memory → List ℕ → Pending → Bool
-diskMatches memory disk Nothing = sameWords disk (baseImage (memory .blocks) (memory .sam .words) disk)
-diskMatches memory disk (Commit s done due) =
-    sameWords disk (after done (commitStores (entriesOf memory s)) (baseImage (memory .blocks) (memory .sam .words) disk))
-diskMatches memory disk (Recovery done due) = recoveryMatches (memory .blocks) (memory .sam .words) disk done due
+diskMatches memory disk pending = partsMatch (memory .blocks) (memory .sam .words) (newSam memory pending) disk pending

@@ -5,9 +5,9 @@ use mathlib.Core.Path.{_≡_}
 use mathlib.Core.Bool.{cond}
 use lib.ListN.{set}
 use Rattle.bitmap.specs.Sizes.{slotCount}
-use Rattle.model.specs.Types.{SlotState, Idle, Open, Precommitted, Nothing, Memory, Answer, SlotIdle, SlotPrecommitted, SlotNotPrecommitted}
+use Rattle.model.specs.Types.{SlotState, Idle, Open, Precommitted, Nothing, Memory, Answer, StoresAnswer, SlotIdle, SlotPrecommitted, SlotNotPrecommitted}
 use Rattle.model_types.specs.Memory.{slotAt, reserveAt, reserveOf, idleSlot, samBit, comBit}
-use Rattle.model.specs.Valid.{touched}
+use Rattle.model.specs.Touched.{touched}
 use Rattle.model.specs.Calls.Drop.{dropAnswer, dropMemory}
 use Rattle.model.specs.Calls.Revoke.{revokeAnswer, revokeMemory}
 use Rattle.model.specs.FourCounts.{OfValid}
@@ -35,7 +35,7 @@ DropEndsOpen = (memory : Memory) (s : ℕ) → dropAnswer memory s ≡ Answer.Do
 
 abbrev pub RevokeEndsPrecommitted : Type 0
 RevokeEndsPrecommitted =
-    (memory : Memory) (s : ℕ) → revokeAnswer memory s ≡ Answer.Done → Ends Precommitted memory s (revokeMemory memory s)
+    (memory : Memory) (s : ℕ) → revokeAnswer memory s ≡ StoresAnswer.Due 0 → Ends Precommitted memory s (revokeMemory memory s)
 
 -- no drop alters anything where the slot is precommitted, and no revoke where it is open, whatever else the memory is
 abbrev pub DropSparesPrecommitted : Type 0
@@ -50,10 +50,10 @@ dropFor Idle = Answer.Refused SlotIdle
 dropFor Open = Answer.Done
 dropFor Precommitted = Answer.Refused SlotPrecommitted
 
-abbrev pub revokeFor : SlotState → Answer
-revokeFor Idle = Answer.Refused SlotIdle
-revokeFor Open = Answer.Refused SlotNotPrecommitted
-revokeFor Precommitted = Answer.Done
+abbrev pub revokeFor : SlotState → StoresAnswer
+revokeFor Idle = StoresAnswer.Refused SlotIdle
+revokeFor Open = StoresAnswer.Refused SlotNotPrecommitted
+revokeFor Precommitted = StoresAnswer.Due 0
 
 -- so each does for every slot of a valid memory with nothing pending: an active slot's transaction can always be ended, by just
 -- one of the two

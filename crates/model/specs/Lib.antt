@@ -8,9 +8,11 @@ pub mod Stores
 pub mod Commit
 pub mod Rollback
 pub mod Pending
+pub mod Touched
 pub mod Valid
 pub mod Disk
 pub mod Causes
+pub mod CauseLists
 pub mod Calls
 pub mod FourCounts
 pub mod CostKept
@@ -18,7 +20,8 @@ pub mod Extents
 pub mod NextFit
 pub mod DropRevoke
 pub mod Reservations
-pub mod Completion
 pub mod Outcome
+pub mod Completion
+pub mod Work
 pub mod Line
 pub mod Bench

@@ -6,13 +6,14 @@ use mathlib.Core.Path.{_≡_}
 use mathlib.Core.Bool.{Bool, true, false, cond}
 use mathlib.Core.List.{List, _++_}
 use lib.ListN.{length, getD, take, drop}
-use lib.Dec.{ltb, eqb}
+use lib.Dec.{ltb}
 use Rattle.bitmap.specs.Blocks.{isAvailable, member}
-use Rattle.model.specs.Types.{Memory, GrantAnswer}
+use Rattle.model.specs.Types.{Pending, Memory, GrantAnswer}
 use Rattle.model.specs.Available.{available}
 use Rattle.model.specs.Calls.Allocate.{firstMet, allocateAnswer, allocateMemory, allocateList}
 use Rattle.model.specs.Calls.AllocateExtent.{allocateExtentAnswer, allocateExtentMemory}
-use Rattle.model.specs.Outcome.{Call, openCall, startCall, allocateCall, allocateExtentCall, deallocateCall, precommitCall, commitCall, dropCall, revokeCall, storeCall, statusCall, commitCostCall, reserveCall, crashCall, outcome}
+use Rattle.model.specs.Outcome.{Call, openCall, crashCall, outcome}
+use Rattle.model.specs.Work.{Work, openWork, crashWork, storeWork, commitWork, changeWork, bearing, grants, works, someWork}
 
 -- it holds wherever an allocate is granted, b being its value
 abbrev pub OfGrant : ((memory : Memory) (s count : ℕ) (list : List ℕ) (b : ℕ) → Type 0) → Type 0
@@ -101,26 +102,17 @@ CursorAnew =
     (memory : Memory) (disk : List ℕ)
     → (outcome openCall memory disk .memory .cursor ≡ 0) × (outcome crashCall memory disk .memory .cursor ≡ 0)
 
--- whether a call with this answer may move it: those, and an allocate, of an extent or not, that isn't refused
-unfoldable pub movesCursor : Call → ℕ → Bool
-movesCursor openCall number = true
-movesCursor (startCall s) number = false
-movesCursor (allocateCall s count list) number = eqb number 0
-movesCursor (allocateExtentCall s count near list) number = eqb number 0
-movesCursor (deallocateCall s block) number = false
-movesCursor (precommitCall s) number = false
-movesCursor (commitCall s) number = false
-movesCursor (dropCall s) number = false
-movesCursor (revokeCall s) number = false
-movesCursor storeCall number = false
-movesCursor statusCall number = false
-movesCursor (commitCostCall s count) number = false
-movesCursor (reserveCall s reservation) number = false
-movesCursor crashCall number = true
+-- whether a work may move it: those, and a grant
+unfoldable pub movesCursor : Work → Pending → Bool
+movesCursor openWork pending = true
+movesCursor crashWork pending = true
+movesCursor storeWork pending = false
+movesCursor (commitWork s) pending = false
+movesCursor (changeWork s change) pending = grants (bearing change)
 
 -- no other call does: "Dropping or revoking doesn't move it back"
 abbrev pub CursorStays : Type 0
 CursorStays =
     (call : Call) (memory : Memory) (disk : List ℕ)
-    → movesCursor call (outcome call memory disk .number) ≡ false
+    → someWork movesCursor (works call memory disk) memory disk ≡ false
     → outcome call memory disk .memory .cursor ≡ memory .cursor

@@ -67,11 +67,13 @@ outcome (allocateExtentCall s count near list) memory disk =
     (allocateExtentAnswer memory s count near list)
     (take count (allocateExtentList memory s count near list))
 outcome (deallocateCall s block) memory disk = outcomeOf (deallocateMemory memory s block) disk (doneNumber (deallocateAnswer memory s block)) 0
-outcome (precommitCall s) memory disk = outcomeOf (precommitMemory memory s) disk (doneNumber (precommitAnswer memory s)) 0
+outcome (precommitCall s) memory disk =
+    outcomeOf (precommitMemory memory s) disk (storesNumber (precommitAnswer memory s)) (storesValue (precommitAnswer memory s))
 outcome (commitCall s) memory disk =
     outcomeOf (commitMemory memory s) disk (storesNumber (commitAnswer memory s)) (storesValue (commitAnswer memory s))
 outcome (dropCall s) memory disk = outcomeOf (dropMemory memory s) disk (doneNumber (dropAnswer memory s)) 0
-outcome (revokeCall s) memory disk = outcomeOf (revokeMemory memory s) disk (doneNumber (revokeAnswer memory s)) 0
+outcome (revokeCall s) memory disk =
+    outcomeOf (revokeMemory memory s) disk (storesNumber (revokeAnswer memory s)) (storesValue (revokeAnswer memory s))
 outcome storeCall memory disk =
     outcomeOf
     (storeMemory memory disk)

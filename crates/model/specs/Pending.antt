@@ -1,8 +1,9 @@
 -- Pending work by its parts, one line a kind: its stores done and due, one more done, and what its last store finishes.
-use Prim.Native.Nat.{ℕ, _+_, _-_}
+use Prim.Native.Nat.{ℕ, zero, suc, _+_, _-_}
+use mathlib.Core.List.{List}
 use Rattle.model.specs.Types.{Pending, Nothing, Commit, Recovery, Memory}
 use Rattle.model_types.specs.Memory.{withPending}
-use Rattle.model.specs.Commit.{committed}
+use Rattle.model.specs.Commit.{committedSam, committed}
 
 -- the stores done so far
 unfoldable pub storesDone : Pending → ℕ
@@ -22,11 +23,22 @@ oneMoreDone Nothing = Nothing
 oneMoreDone (Commit s done due) = Commit s (done + 1) due
 oneMoreDone (Recovery done due) = Recovery (done + 1) due
 
+-- and with n more
+unfoldable pub moreDone : ℕ → Pending → Pending
+moreDone zero pending = pending
+moreDone (suc n) pending = moreDone n (oneMoreDone pending)
+
 -- the memory after the last store: a commit changes the bitmaps, a recovery has none to change
 unfoldable pub finished : Memory → Pending → Memory
 finished memory Nothing = memory
 finished memory (Commit s done due) = committed memory s
 finished memory (Recovery done due) = withPending memory Nothing
+
+-- the words of the SAM that the work makes: a commit's new one, else SAM as it is
+unfoldable pub newSam : Memory → Pending → List ℕ
+newSam memory Nothing = memory .sam .words
+newSam memory (Commit s done due) = committedSam memory s .words
+newSam memory (Recovery done due) = memory .sam .words
 
 -- the stores not yet done
 unfoldable pub storesLeft : Pending → ℕ

@@ -2,7 +2,7 @@
 -- station may always allocate up to its claim, 1 to 64 a call into a list as long; store work in hand alone delays it."
 use Prim.Native.Nat.{ℕ, _+_, _-_, _≤_, _<_, min}
 use mathlib.Core.Path.{_≡_}
-use mathlib.Core.Bool.{Bool, true, false, _&&_}
+use mathlib.Core.Bool.{Bool, true, false, not, _&&_}
 use mathlib.Core.List.{List}
 use lib.ListN.{length, getD, set}
 use lib.Dec.{eqb}
@@ -19,7 +19,8 @@ use Rattle.model.specs.Calls.Reserve.{reserveAnswer, reserveMemory}
 use Rattle.model.specs.Calls.Status.{counts}
 use Rattle.model.specs.FourCounts.{OfValid}
 use Rattle.model.specs.Extents.{IsExtent}
-use Rattle.model.specs.Outcome.{Call, openCall, startCall, allocateCall, allocateExtentCall, deallocateCall, precommitCall, commitCall, dropCall, revokeCall, storeCall, statusCall, commitCostCall, reserveCall, crashCall, outcome}
+use Rattle.model.specs.Outcome.{Call, openCall, crashCall, outcome}
+use Rattle.model.specs.Work.{Work, openWork, crashWork, storeWork, commitWork, changeWork, bearing, setsAside, isPlain, works, someWork}
 
 -- ---- what a slot can have
 
@@ -131,29 +132,19 @@ ReservationsWiped =
     (memory : Memory) (disk : List ℕ)
     → (outcome openCall memory disk .memory .reserves ≡ noReserves) × (outcome crashCall memory disk .memory .reserves ≡ noReserves)
 
--- whether a call with this answer may change the reservation of slot s: those, and a reserve, an allocate, of an extent or not, a drop
--- and a revoke of this slot that isn't refused
-unfoldable pub changesReservation : ℕ → Call → ℕ → Bool
-changesReservation s openCall number = true
-changesReservation s (startCall t) number = false
-changesReservation s (allocateCall t count list) number = eqb t s && eqb number 0
-changesReservation s (allocateExtentCall t count near list) number = eqb t s && eqb number 0
-changesReservation s (deallocateCall t block) number = false
-changesReservation s (precommitCall t) number = false
-changesReservation s (commitCall t) number = false
-changesReservation s (dropCall t) number = eqb t s && eqb number 0
-changesReservation s (revokeCall t) number = eqb t s && eqb number 0
-changesReservation s storeCall number = false
-changesReservation s statusCall number = false
-changesReservation s (commitCostCall t count) number = false
-changesReservation s (reserveCall t reservation) number = eqb t s && eqb number 0
-changesReservation s crashCall number = true
+-- whether a work may change the reservation of slot s: those, and a reserve, a grant and a rollback of this slot
+unfoldable pub changesReservation : ℕ → Work → Pending → Bool
+changesReservation s openWork pending = true
+changesReservation s crashWork pending = true
+changesReservation s storeWork pending = false
+changesReservation s (commitWork t) pending = false
+changesReservation s (changeWork t change) pending = eqb t s && not (isPlain (bearing change))
 
--- no other call does: none of another slot, no commit and none of its stores
+-- no other call does: none that is refused, none of another slot, no commit and none of its stores
 abbrev pub ReservationStays : Type 0
 ReservationStays =
     (s : ℕ) (call : Call) (memory : Memory) (disk : List ℕ)
-    → changesReservation s call (outcome call memory disk .number) ≡ false
+    → someWork (changesReservation s) (works call memory disk) memory disk ≡ false
     → reserveAt (outcome call memory disk .memory) s .reservation ≡ reserveAt memory s .reservation
 
 -- ---- a transaction that is given up
@@ -168,26 +159,17 @@ isCommitOf s Nothing = false
 isCommitOf s (Commit t done due) = eqb t s
 isCommitOf s (Recovery done due) = false
 
--- whether a call may change both together: an open, a crash, a reserve of this slot, its commit, and a store of that
-unfoldable pub changesTogether : ℕ → Call → Pending → Bool
-changesTogether s openCall pending = true
-changesTogether s (startCall t) pending = false
-changesTogether s (allocateCall t count list) pending = false
-changesTogether s (allocateExtentCall t count near list) pending = false
-changesTogether s (deallocateCall t block) pending = false
-changesTogether s (precommitCall t) pending = false
-changesTogether s (commitCall t) pending = eqb t s
-changesTogether s (dropCall t) pending = false
-changesTogether s (revokeCall t) pending = false
-changesTogether s storeCall pending = isCommitOf s pending
-changesTogether s statusCall pending = false
-changesTogether s (commitCostCall t count) pending = false
-changesTogether s (reserveCall t reservation) pending = eqb t s
-changesTogether s crashCall pending = true
+-- whether a work may change both together: an open, a crash, a reserve of this slot, its commit, and a store of that
+unfoldable pub changesTogether : ℕ → Work → Pending → Bool
+changesTogether s openWork pending = true
+changesTogether s crashWork pending = true
+changesTogether s storeWork pending = isCommitOf s pending
+changesTogether s (commitWork t) pending = eqb t s
+changesTogether s (changeWork t change) pending = eqb t s && setsAside (bearing change)
 
 -- no other call does: what a grant takes from the one it adds to the other, and a drop or revoke puts it back
 abbrev pub TogetherStays : Type 0
 TogetherStays =
     (s : ℕ) (call : Call) (memory : Memory) (disk : List ℕ)
-    → changesTogether s call (memory .pending) ≡ false
+    → someWork (changesTogether s) (works call memory disk) memory disk ≡ false
     → together (outcome call memory disk .memory) s ≡ together memory s

@@ -25,6 +25,10 @@ logAt = 130
 abbrev pub logWords : ℕ
 logWords = 256
 
+-- all words from the log's start on
+abbrev pub tailWords : ℕ
+tailWords = 256
+
 -- where the log ends
 abbrev pub logEnd : ℕ
 logEnd = 386

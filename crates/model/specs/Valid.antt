@@ -6,12 +6,13 @@ use lib.ListN.{length}
 use lib.Dec.{leb, ltb, eqb}
 use Rattle.bitmap.specs.Sizes.{slotCount, blocksInRange}
 use Rattle.bitmap.specs.Bits.{noBitsFrom}
-use Rattle.bitmap.specs.Blocks.{from, allBelow}
+use Rattle.bitmap.specs.Blocks.{allBelow}
 use Rattle.model.specs.Types.{Slot, Pending, Nothing, Commit, Recovery, Memory}
-use Rattle.model_types.specs.Memory.{slotAt, reserveAt, isActive, isPrecommitted, samBit, comBit, tamBit, emptyBitmap, volumeWords}
+use Rattle.model_types.specs.Memory.{slotAt, reserveAt, isActive, isPrecommitted, samBit, comBit, emptyBitmap, volumeWords}
 use Rattle.model.specs.Available.{available}
 use Rattle.model.specs.Reserves.{totalReserved}
 use Rattle.model.specs.Commit.{changedOf, commitDue}
+use Rattle.model.specs.Touched.{touched, takenBlocks}
 
 -- whether two lists of words are the same
 unfoldable pub sameWords : List ℕ → List ℕ → Bool
@@ -31,10 +32,6 @@ slotValid blocks slot =
     noBitsFrom blocks (slot .tam .words)
     && cond (isActive (slot .state)) true (sameWords (slot .tam .words) (emptyBitmap .words))
 
--- "A seat has touched a block where its TAM differs from SAM."
-unfoldable pub touched : Memory → Slot → ℕ → Bool
-touched memory slot b = xor (tamBit slot b) (samBit memory b)
-
 -- how many of the slots that aren't idle have touched a block
 unfoldable pub touches : Memory → ℕ → List Slot → ℕ
 touches memory b [] = 0
@@ -43,14 +40,6 @@ touches memory b (slot ∷ slots) = cond (isActive (slot .state) && touched memo
 -- "where COM equals SAM, no seat that isn't idle has touched the block; where they differ, just one has"
 unfoldable pub touchesAgree : Memory → Bool
 touchesAgree memory = allBelow (memory .blocks) (λ b. eqb (touches memory b (memory .slots)) (cond (xor (samBit memory b) (comBit memory b)) 1 0))
-
--- whether a slot took a block: it has touched it, and SAM is 0
-unfoldable pub took : Memory → Slot → ℕ → Bool
-took memory slot b = touched memory slot b && not (samBit memory b)
-
--- the blocks that slot s took, lowest first
-unfoldable pub takenBlocks : Memory → ℕ → List ℕ
-takenBlocks memory s = from (took memory (slotAt memory s)) (memory .blocks) 0
 
 -- document 02, job 7: "In a fit memory all claims add up to no more than the grantable blocks"
 unfoldable pub reservationsFit : Memory → Bool

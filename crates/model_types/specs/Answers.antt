@@ -1,6 +1,7 @@
 -- Answers: for each case of an answer its number and its value, as document 01's bench line prints them: "answer (0 or
 -- the refusal), value: for commit and open the stores due, for store those still due, for alloc the first block, for stat
--- the allocated count, else, and on refusal, 0." A commit cost, which has no bench line, answers stores as a commit does.
+-- the allocated count, else, and on refusal, 0." Precommit and revoke answer stores as a commit does, none: that 0. So does a
+-- commit cost, which has no bench line.
 use Prim.Native.Nat.{ℕ}
 use mathlib.Core.Option.{Option, none, some}
 use Rattle.model_types.specs.declared.error.Error.{Error}

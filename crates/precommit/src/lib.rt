@@ -2,7 +2,7 @@
 ghost use mathlib.Core.Path.{_≡_};
 ghost use Rattle.model.specs.Calls.Precommit.{precommitAnswer, precommitMemory};
 use bitmap::Bitmap;
-use model_types::answer::Changed;
+use model_types::answer::Stored;
 use model_types::memory::Memory;
 use model_types::memory::Slot;
 use model_types::memory::SlotState;
@@ -11,7 +11,7 @@ use validity::valid;
 use verdicts::ready::open;
 
 // Precommits an open slot. Refused, the memory stays.
-pub fn precommit(mut memory: Memory, slot: u32) -> Changed
+pub fn precommit(mut memory: Memory, slot: u32) -> Stored
     ensures answers { λ r. ⌜ r .answer ≡ precommitAnswer memory slot ⌝ }
     ensures leaves { λ r. ⌜ r .memory ≡ precommitMemory memory slot ⌝ }
 {
@@ -33,11 +33,11 @@ pub fn precommit(mut memory: Memory, slot: u32) -> Changed
     let own = slots[at];
     let state = own.state;
     let verdict = open(sound, pending, slot, state);
-    let answer = verdict.answer();
+    let answer = verdict.stores(0);
     if verdict.is_accepted() {
         let tam = own.tam;
         slots[at] = Slot::new(SlotState::Precommitted, tam);
     }
     memory.slots = slots;
-    Changed { answer, memory }
+    Stored { answer, memory }
 }

@@ -23,7 +23,8 @@ use Rattle.model.specs.Calls.Start.{startError, started, startMemory}
 use Rattle.model.specs.Calls.Precommit.{precommitError, precommitting, precommitMemory}
 use Rattle.model.specs.Calls.Allocate.{taking}
 use Rattle.model.specs.Calls.AllocateExtent.{allocateExtentError, nearestExtent, allocateExtentAnswer, allocateExtentMemory, allocateExtentList}
-use Rattle.model.specs.Valid.{touched, sameWords, allSlots, slotValid, touches, touchesAgree, took, takenBlocks, reservationsFit, drawnFit, isQuiet, pendingValid, valid}
+use Rattle.model.specs.Touched.{touched, took, takenBlocks}
+use Rattle.model.specs.Valid.{sameWords, allSlots, slotValid, touches, touchesAgree, reservationsFit, drawnFit, isQuiet, pendingValid, valid}
 use Rattle.model.proofs.Laws.Rows.{sameRows, rows-same}
 
 list : List ℕ

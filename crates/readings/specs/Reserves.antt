@@ -30,7 +30,8 @@ use Rattle.model.specs.Calls.CommitCost.{commitCostError, commitCostAnswer}
 use Rattle.model.specs.Calls.Drop.{dropError, dropMemory}
 use Rattle.model.specs.Calls.Revoke.{revokeError, revokeMemory}
 use Rattle.model.specs.Calls.Reserve.{reserveError, reserveAnswer, reserveMemory}
-use Rattle.model.specs.Valid.{touched, sameWords, allSlots, slotValid, touches, touchesAgree, took, takenBlocks, reservationsFit, drawnFit, isQuiet, pendingValid, valid}
+use Rattle.model.specs.Touched.{touched, took, takenBlocks}
+use Rattle.model.specs.Valid.{sameWords, allSlots, slotValid, touches, touchesAgree, reservationsFit, drawnFit, isQuiet, pendingValid, valid}
 use Rattle.model.proofs.Laws.Rows.{sameRows, rows-same}
 
 list : List ℕ

@@ -9,7 +9,7 @@ use Rattle.bitmap.specs.declared.Bitmap.{Bitmap}
 use Rattle.bitmap.specs.Sizes.{bitmapWords, maxCount, wordsFor, blocksInRange, countInRange, slotInRange}
 use Rattle.model_types.specs.declared.memory.Pending.the-variants.{Nothing}
 use Rattle.model_types.specs.declared.answer.Counts.{Counts}
-use Rattle.model.specs.Sizes.{logWords}
+use Rattle.model.specs.Sizes.{tailWords}
 use Rattle.model.specs.Completion.{afterStores}
 use Rattle.bitmap.specs.Bits.{isSet, bit, wordOf, wordsOf, bitmapOf, noBitsFrom}
 use Rattle.bitmap.specs.Blocks.{scan, from, allocatedBlocks, isAvailable, availableBlocks, isAllocating, allocatingBlocks, isFreeing, freeingBlocks, isHeld, heldBlocks, member, allBelow}
@@ -17,7 +17,8 @@ use Rattle.bitmap.specs.Round.{roundFrom, wrapped, afterLast}
 use Rattle.bitmap.specs.Majority.{majority}
 use Rattle.model_types.specs.Answers.{done, granted, due, counted, doneNumber, grantNumber, storesNumber, storesValue}
 use Rattle.model.specs.Calls.Allocate.{allocateError, met, firstMet, taking, allocateAnswer, allocateMemory, allocateList}
-use Rattle.model.specs.Calls.CommitCost.{commitCostError, touchedBlocks, costFor, commitCost, commitCostAnswer}
+use Rattle.model.specs.Touched.{touched, touchedBlocks, took, takenBlocks}
+use Rattle.model.specs.Calls.CommitCost.{commitCostError, costFor, commitCost, commitCostAnswer}
 use Rattle.model.specs.Calls.Committing.{commitError, committing, commitAnswer, commitMemory}
 use Rattle.model.specs.Calls.Deallocate.{deallocateError, freeing, deallocateAnswer, deallocateMemory}
 use Rattle.model.specs.Calls.Opening.{openError, recoveryDue, recoveryPending, opened, openAnswer, openMemory}
@@ -29,13 +30,13 @@ use Rattle.model.specs.Available.{available}
 use Rattle.model.specs.Reserves.{totalReserved, othersReserved, drawing, usedUp}
 use Rattle.model.specs.Causes.{memoryInvalid, diskLengthWrong, diskBlocksWrong, diskBitmapWrong, diskLogWrong, diskMismatched, nothingPending, workPending, slotOutOfRange, slotActive, slotInactive, slotPrecommitted, slotNotPrecommitted, countOutOfRange, countTooLarge, listShort, tooFewAvailable, blockOutOfRange, blockFree, blockFreeing, reservedForOthers}
 use Rattle.model_types.specs.Pending.{isNothing}
-use Rattle.model.specs.Pending.{storesDone, storesDue, oneMoreDone, finished}
+use Rattle.model.specs.Pending.{storesDone, storesDue, oneMoreDone, newSam, finished}
 use Rattle.model.specs.Commit.{committedSam, entriesOf, changedOf, commitDue, refreshed, committed}
-use Rattle.model.specs.Disk.{diskOf, lengthIn, entriesIn, logEntries, entriesValid, logValid, durable, dueStores, entriesAgree, recoveryMatches, diskMatches}
+use Rattle.model.specs.Disk.{diskOf, lengthIn, entriesIn, logEntries, entriesValid, wordOneValid, logValid, durable, storesOf, nextDisk, dueStores, entriesAgree, recoveryMatches, imageMatches, storesMatch, partsMatch, diskMatches}
 use Rattle.model.specs.First.{firstOr, first, unlessRefused}
 use Rattle.model_types.specs.Memory.{quietMemory, bitmap, slotAt}
 use Rattle.model.specs.Stores.{writes, changesFrom, logStores, checkpointWith, journalWith, checkpointStores, commitStores, Store}
-use Rattle.model.specs.Valid.{touched, sameWords, allSlots, slotValid, touches, touchesAgree, took, takenBlocks, reservationsFit, drawnFit, isQuiet, pendingValid, valid}
+use Rattle.model.specs.Valid.{sameWords, allSlots, slotValid, touches, touchesAgree, reservationsFit, drawnFit, isQuiet, pendingValid, valid}
 use Rattle.model.proofs.Laws.Rows.{sameRows, rows-same}
 use Rattle.model.proofs.Laws.Writes.{and-first, and-second}
 
@@ -47,7 +48,7 @@ pub sam0 : Bitmap
 sam0 = bitmap (1 ∷ replicate (bitmapWords - 1) 0)
 
 disk0 : List ℕ
-disk0 = diskOf 4 0 (sam0 .words) (replicate logWords 0)
+disk0 = diskOf 4 0 (sam0 .words) (replicate tailWords 0)
 
 -- word 0 of a bitmap
 word0 : Bitmap → ℕ
@@ -159,7 +160,7 @@ priced =
     ∷ []
 
 computed : (sameRows readings expected && (sameRows nursery told && sameRows costs priced)) ≡ true
-unfolding sameRows expected told priced list sam0 disk0 word0 flat figures readings nursery costs xor isSet bit wordOf wordsOf bitmapOf noBitsFrom scan from allocatedBlocks isAvailable availableBlocks isAllocating allocatingBlocks isFreeing freeingBlocks isHeld heldBlocks member allBelow majority done granted due counted commitCostError touchedBlocks costFor commitCost commitCostAnswer allocateError roundFrom wrapped afterLast met firstMet taking allocateAnswer allocateMemory allocateList commitError committing commitAnswer commitMemory deallocateError freeing deallocateAnswer deallocateMemory openError recoveryDue recoveryPending opened openAnswer openMemory precommitError precommitting precommitAnswer precommitMemory startError started startAnswer startMemory statusError allocated activeSlots counts statusAnswer storeError stillDue advanced nextStored storeAnswer storeMemory storeDisk memoryInvalid diskLengthWrong diskBlocksWrong diskBitmapWrong diskLogWrong diskMismatched isNothing nothingPending workPending slotOutOfRange slotActive slotInactive slotPrecommitted slotNotPrecommitted countOutOfRange countTooLarge listShort available tooFewAvailable blockOutOfRange blockFree blockFreeing committedSam entriesOf changedOf commitDue refreshed committed lengthIn entriesIn logEntries entriesValid logValid durable dueStores entriesAgree recoveryMatches diskMatches firstOr first unlessRefused touched storesDone storesDue oneMoreDone finished writes changesFrom logStores checkpointWith journalWith checkpointStores commitStores blocksInRange countInRange slotInRange sameWords allSlots slotValid touches touchesAgree took takenBlocks reservationsFit drawnFit isQuiet pendingValid valid totalReserved othersReserved drawing usedUp reservedForOthers
+unfolding sameRows expected told priced list sam0 disk0 word0 flat figures readings nursery costs xor isSet bit wordOf wordsOf bitmapOf noBitsFrom scan from allocatedBlocks isAvailable availableBlocks isAllocating allocatingBlocks isFreeing freeingBlocks isHeld heldBlocks member allBelow majority done granted due counted commitCostError touchedBlocks costFor commitCost commitCostAnswer allocateError roundFrom wrapped afterLast met firstMet taking allocateAnswer allocateMemory allocateList commitError committing commitAnswer commitMemory deallocateError freeing deallocateAnswer deallocateMemory openError recoveryDue recoveryPending opened openAnswer openMemory precommitError precommitting precommitAnswer precommitMemory startError started startAnswer startMemory statusError allocated activeSlots counts statusAnswer storeError stillDue advanced nextStored storeAnswer storeMemory storeDisk memoryInvalid diskLengthWrong diskBlocksWrong diskBitmapWrong diskLogWrong diskMismatched isNothing nothingPending workPending slotOutOfRange slotActive slotInactive slotPrecommitted slotNotPrecommitted countOutOfRange countTooLarge listShort available tooFewAvailable blockOutOfRange blockFree blockFreeing committedSam entriesOf changedOf commitDue refreshed committed lengthIn entriesIn logEntries entriesValid wordOneValid logValid durable storesOf nextDisk dueStores entriesAgree recoveryMatches imageMatches storesMatch partsMatch diskMatches firstOr first unlessRefused touched storesDone storesDue oneMoreDone newSam finished writes changesFrom logStores checkpointWith journalWith checkpointStores commitStores blocksInRange countInRange slotInRange sameWords allSlots slotValid touches touchesAgree took takenBlocks reservationsFit drawnFit isQuiet pendingValid valid totalReserved othersReserved drawing usedUp reservedForOthers
 computed = refl
 
 both : (sameRows nursery told && sameRows costs priced) ≡ true

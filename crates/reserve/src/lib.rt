@@ -1,12 +1,12 @@
 // Reserve: blocks set aside for an idle slot, in the place of what was.
 ghost use mathlib.Core.Path.{_≡_};
 ghost use mathlib.Core.Bool.{true};
-ghost use Prim.Native.Nat.{_≤_, _^_, _<_};
+ghost use Prim.Native.Nat.{_+_, _^_, _≤_, _<_};
 ghost use Rattle.bitmap.specs.Sizes.{maxBlocks};
 ghost use Rattle.bitmap.specs.Bits.{IsBitmap};
+ghost use Rattle.model.specs.CauseLists.{roomCauses};
 ghost use Rattle.model.specs.Calls.Reserve.{reserveAnswer, reserveMemory};
 ghost use Rattle.verdicts.specs.Verdicts.{isAccepted, thenCauses};
-ghost use Rattle.reserve.specs.Causes.{roomCauses};
 use bitmap::Bitmap;
 use counting::count_available;
 use model_types::answer::Changed;
@@ -32,7 +32,7 @@ fn room<'a>(
     requires { ⌜ IsBitmap (now «com») ⌝ }
     requires { ⌜ (isAccepted earlier ≡ true → blocks ≤ maxBlocks) ⌝ }
     requires { ⌜ kept < 2 ^ 36 ⌝ }
-    ensures { λ r. ⌜ r ≡ thenCauses earlier (roomCauses blocks (now (sam .entry)) (now («com» .entry)) kept reservation) ⌝ }
+    ensures { λ r. ⌜ r ≡ thenCauses earlier (roomCauses blocks (now (sam .entry)) (now («com» .entry)) (kept + reservation)) ⌝ }
 {
     if !earlier.is_accepted() {
         return earlier;

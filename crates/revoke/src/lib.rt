@@ -2,7 +2,7 @@
 ghost use mathlib.Core.Path.{_≡_};
 ghost use Rattle.model.specs.Calls.Revoke.{revokeAnswer, revokeMemory};
 use bitmap::Bitmap;
-use model_types::answer::Changed;
+use model_types::answer::Stored;
 use model_types::memory::Memory;
 use reserves::change::put_back;
 use rollback::roll_back;
@@ -11,7 +11,7 @@ use validity::valid;
 use verdicts::ready::precommitted;
 
 // Rolls back a precommitted slot, and puts back what it has drawn. Refused, the memory stays.
-pub fn revoke(mut memory: Memory, slot: u32) -> Changed
+pub fn revoke(mut memory: Memory, slot: u32) -> Stored
     ensures answers { λ r. ⌜ r .answer ≡ revokeAnswer memory slot ⌝ }
     ensures leaves { λ r. ⌜ r .memory ≡ revokeMemory memory slot ⌝ }
 {
@@ -33,7 +33,7 @@ pub fn revoke(mut memory: Memory, slot: u32) -> Changed
     let own = slots[at];
     let state = own.state;
     let verdict = precommitted(sound, pending, slot, state);
-    let answer = verdict.answer();
+    let answer = verdict.stores(0);
     if verdict.is_accepted() {
         let idle = roll_back(&mut com.words, &sam.words, &own.tam.words);
         slots[at] = idle;
@@ -43,5 +43,5 @@ pub fn revoke(mut memory: Memory, slot: u32) -> Changed
     memory.com = com;
     memory.slots = slots;
     memory.reserves = reserves;
-    Changed { answer, memory }
+    Stored { answer, memory }
 }

@@ -5,8 +5,10 @@ ghost use lib.ListN.{length};
 ghost use Rattle.bitmap.specs.Bits.{IsBitmap};
 ghost use Rattle.model.specs.Sizes.{diskWords};
 ghost use Rattle.model.specs.First.{first};
+ghost use Rattle.model.specs.Disk.{partsMatch, nextDisk};
 ghost use Rattle.verdicts.specs.Verdicts.{verdict};
-ghost use Rattle.store.specs.Step.{Fits, CanStore, partsMatch, storeCauses, diskAfter};
+ghost use Rattle.model.specs.CauseLists.{storeCauses};
+ghost use Rattle.store.specs.Step.{Fits, CanStore};
 use disk_log::layout::DISK_WORDS;
 use disk_match::matching::commit_matches;
 use disk_match::matching::settled_matches;
@@ -68,7 +70,7 @@ pub fn judge<'a>(
 // Makes the next store: one word of the disk, and no other.
 pub fn store_next<'a>(sam: &'a [u32; 128], new: &'a [u32; 128], pending: Pending, disk: &mut [u32])
     requires { ⌜ CanStore (now sam) (now new) (now disk) pending ⌝ }
-    ensures { λ _. ⌜ now (disk .exit) ≡ diskAfter (now (sam .entry)) (now (new .entry)) (now (disk .entry)) pending ⌝ }
+    ensures { λ _. ⌜ now (disk .exit) ≡ nextDisk (now (sam .entry)) (now (new .entry)) (now (disk .entry)) pending ⌝ }
 {
     match pending {
         Pending::Nothing => {}

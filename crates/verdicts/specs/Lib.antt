@@ -1,3 +1,2 @@
--- Verdicts, and the causes that the eight transaction calls, commit cost and reserve test first.
+-- Verdicts.
 pub mod Verdicts
-pub mod Ready

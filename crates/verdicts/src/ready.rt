@@ -2,8 +2,8 @@
 // number and its state.
 ghost use mathlib.Core.Path.{_≡_};
 ghost use Rattle.model.specs.First.{first};
+ghost use Rattle.model.specs.CauseLists.{readyCauses, idleCauses, activeCauses, openCauses, precommittedCauses};
 ghost use Rattle.verdicts.specs.Verdicts.{verdict};
-ghost use Rattle.verdicts.specs.Ready.{readyCauses, idleCauses, activeCauses, openCauses, precommittedCauses};
 use crate::verdict::Verdict;
 use bitmap::Bitmap;
 use model_types::error::Error;

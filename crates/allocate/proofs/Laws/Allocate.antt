@@ -1,7 +1,7 @@
 -- Allocate: its verdict, and what taking its blocks needs.
 use Prim.Native.Nat.{ℕ, _≤_}
 use native.Mathlib.Omega.{arith}
-use mathlib.Core.Path.{_≡_, refl, ap, _∙_}
+use mathlib.Core.Path.{_≡_, refl}
 use mathlib.Core.Option.{none}
 use mathlib.Core.List.{List}
 use lib.ListN.{length}
@@ -10,7 +10,8 @@ use Rattle.model_types.specs.declared.memory.Slot.{Slot}
 use Rattle.model_types.specs.declared.memory.Memory.{Memory}
 use Rattle.model_types.specs.Memory.{slotAt}
 use Rattle.model.specs.Available.{available}
-use Rattle.model.specs.Causes.{countOutOfRange, listShort, tooFewAvailable, reservedForOthers}
+use Rattle.model.specs.Causes.{ofVolume}
+use Rattle.model.specs.CauseLists.{openCauses, ofSlot, grantCauses}
 use Rattle.model.specs.Reserves.{othersReserved}
 use Rattle.model.specs.Calls.Precommit.{precommitError}
 use Rattle.model.specs.Calls.Allocate.{allocateError, met, firstMet}
@@ -20,22 +21,17 @@ use Rattle.model.proofs.Laws.Taking.{met-length}
 use Rattle.model.proofs.Laws.Accepted.{AllocateAccepted}
 use Rattle.verdicts.specs.declared.verdict.Verdict.{Verdict}
 use Rattle.verdicts.specs.Verdicts.{verdict, thenCauses}
-use Rattle.verdicts.proofs.Laws.Verdicts.{then-causes, then-same}
-use Rattle.allocate.specs.Causes.{countCauses}
+use Rattle.verdicts.proofs.Laws.Verdicts.{then-read}
 
 module _ (memory : Memory) (s count : ℕ) (list : List ℕ) where
   -- its own causes after those of an open slot
   pub allocate-verdict : {v earlier : Verdict} (reserved : ℕ)
-      → v ≡ thenCauses earlier (countCauses (memory .blocks) (memory .sam .words) (memory .com .words) count list reserved)
+      → v ≡ thenCauses earlier (ofVolume grantCauses memory count list reserved)
       → earlier ≡ verdict (precommitError memory s)
       → (precommitError memory s ≡ none → reserved ≡ othersReserved (memory .reserves) s)
       → v ≡ verdict (allocateError memory s count list)
-  unfolding precommitError allocateError countOutOfRange listShort tooFewAvailable reservedForOthers available
-  allocate-verdict reserved e f g =
-      e
-      ∙ rw f
-      (then-same (precommitError memory s) _ _ (λ passed. ap (countCauses (memory .blocks) (memory .sam .words) (memory .com .words) count list) (g passed))
-      ∙ then-causes _ _)
+  unfolding precommitError allocateError
+  allocate-verdict reserved e f g = then-read (ofSlot openCauses memory s) (ofVolume grantCauses memory count list) e f g
 
   -- its blocks are as many as counted, so at least one
   pub some-met : AllocateAccepted memory s count list → 1 ≤ length (firstMet memory count)

@@ -4,6 +4,7 @@ use mathlib.Core.Path.{refl, sym, ap, _∙_}
 use mathlib.Core.Bool.{not}
 use lib.Dec.{ltb}
 use borrow.Author.Tests.{not-true, not-false}
+use Rattle.model.specs.Causes.{countOutOfRange, listShort, tooFewAvailable, reservedForOthers}
 use Rattle.verdicts.proofs.Laws.Verdicts.{none-tested, then-tested, then-refused, then-accepted}
 use borrow.Author.Needs.{needs}
 use Rattle.allocate.proofs.enough.Statement.{statement}
@@ -39,6 +40,7 @@ unless-requires-4 : tie.Need-unless-requires-4
 unless-requires-4 c κs = search needs
 
 returns-2 : tie.Need-returns-2
+unfolding countOutOfRange listShort tooFewAvailable reservedForOthers
 returns-2 c =
     let fewer = c .before .leaves-fewer in
     let enough = c .before .before .unless3 in

@@ -5,8 +5,8 @@ use native.Mathlib.Omega.{arith}
 use mathlib.Core.Path.{_≡_, refl, sym, ap, _∙_}
 use mathlib.Core.Bool.{Bool, true, false, cond}
 use mathlib.Core.Option.{none}
-use mathlib.Core.List.{List, [], _∷_}
-use lib.ListN.{length, getD, take, drop}
+use mathlib.Core.List.{List, [], _∷_, _++_}
+use lib.ListN.{length, getD}
 use lib.Dec.{eqb}
 use borrow.Author.Tests.{eq-eqb, ne-eqb, eqb-true, eqb-false}
 use Rattle.bitmap.specs.Sizes.{maxBlocks}
@@ -15,14 +15,14 @@ use Rattle.bitmap.specs.Extents.{nearest, starts}
 use Rattle.bitmap.specs.Round.{wrapped, afterLast}
 use Rattle.bitmap.proofs.Laws.Extents.{nearest-none, member-some}
 use Rattle.bitmap.proofs.Laws.Round.{after-last-at}
-use Rattle.model_types.specs.declared.error.Error.the-variants.{MemoryInvalid, WorkPending, SlotRange, SlotIdle, SlotPrecommitted, CountRange, ListShort, BlockRange, NoExtent}
+use Rattle.model_types.specs.declared.error.Error.the-variants.{NoExtent}
 use Rattle.model_types.specs.declared.memory.Slot.{Slot}
 use Rattle.model_types.specs.declared.memory.Memory.{Memory}
 use Rattle.model_types.specs.Memory.{slotAt}
 use Rattle.model.specs.First.{Cause, first, _⇒_}
-use Rattle.model.specs.Available.{available}
 use Rattle.model.specs.Reserves.{othersReserved}
-use Rattle.model.specs.Causes.{memoryInvalid, workPending, slotOutOfRange, slotInactive, slotPrecommitted, countOutOfRange, listShort, blockOutOfRange, extentStarts, noExtent, reservedForOthers}
+use Rattle.model.specs.Causes.{ofVolume, extentStarts, noExtent}
+use Rattle.model.specs.CauseLists.{openCauses, ofSlot, requestCauses, spareCauses}
 use Rattle.model.specs.Calls.Precommit.{precommitError}
 use Rattle.model.specs.Calls.AllocateExtent.{allocateExtentError, nearestExtent}
 use Rattle.model_types.proofs.Laws.Shape.{Shaped}
@@ -32,11 +32,10 @@ use Rattle.model.proofs.Laws.Accepted.{count-some, count-few, block-below, prec
 use Rattle.model.proofs.Laws.Extents.{nearestStart, nearest-extent, nearest-at, nearest-length}
 use Rattle.verdicts.specs.declared.verdict.Verdict.{Verdict}
 use Rattle.verdicts.specs.Verdicts.{verdict, isAccepted, unlessHolds, thenCauses}
-use Rattle.verdicts.proofs.Laws.Verdicts.{one-more, then-causes, then-same, then-passed, none-before, tested-last, unless-passed, accepted-none}
+use Rattle.verdicts.proofs.Laws.Verdicts.{one-more, then-causes, then-read, then-passed, none-before, tested-last, unless-passed, accepted-none}
 use Rattle.available.specs.Take.{Takes}
 use Rattle.extents.specs.Take.{CanTake, LiesIn, TakesExtent}
 use Rattle.extents.specs.Nearest.{CanSearch}
-use Rattle.allocate_extent.specs.Causes.{requestCauses, spareCauses}
 
 module _ (memory : Memory) (s count near : ℕ) (list : List ℕ) where
   -- ---- the causes
@@ -45,7 +44,6 @@ module _ (memory : Memory) (s count near : ℕ) (list : List ℕ) where
       (is-open : earlier ≡ verdict (precommitError memory s)) where
     -- where the request is accepted, an extent can be looked for
     pub can-search : isAccepted request ≡ true → CanSearch (memory .blocks) count near
-    unfolding countOutOfRange blockOutOfRange
     can-search e =
         let passed = then-passed earlier _ (sym (ap isAccepted asked) ∙ e) in
         let open-slot = precommit-accepted memory s (accepted-none _ is-open refl (passed .0)) in
@@ -56,27 +54,18 @@ module _ (memory : Memory) (s count near : ℕ) (list : List ℕ) where
           volume = valid-parts memory (open-slot .ready .is-valid) .few-blocks;
           some = count-some count (c15 .0);
           few = count-few count (c15 .0);
-          inside = block-below memory near (c18 .0);
+          inside = block-below (memory .blocks) near (c18 .0);
         }
 
     -- all causes but the last
     abbrev earlierCauses : List Cause
     earlierCauses =
-        memoryInvalid memory ⇒ MemoryInvalid
-        ∷ workPending memory ⇒ WorkPending
-        ∷ slotOutOfRange s ⇒ SlotRange
-        ∷ slotInactive memory s ⇒ SlotIdle
-        ∷ slotPrecommitted memory s ⇒ SlotPrecommitted
-        ∷ countOutOfRange count ⇒ CountRange
-        ∷ listShort list count ⇒ ListShort
-        ∷ blockOutOfRange memory near ⇒ BlockRange
-        ∷ noExtent memory count ⇒ NoExtent
-        ∷ []
+        ofSlot openCauses memory s ++ requestCauses (memory .blocks) count near list ++ (noExtent memory count ⇒ NoExtent ∷ [])
 
     -- with 22 tested where no other cause holds
     found-verdict : {found : Verdict} {t : Bool} → found ≡ unlessHolds request t NoExtent → (isAccepted request ≡ true → t ≡ noExtent memory count)
         → found ≡ verdict (first earlierCauses)
-    unfolding precommitError countOutOfRange listShort blockOutOfRange
+    unfolding precommitError
     found-verdict e tested =
         e
         ∙ tested-last request (noExtent memory count) NoExtent tested
@@ -92,16 +81,13 @@ module _ (memory : Memory) (s count near : ℕ) (list : List ℕ) where
     pub extent-verdict : {found v : Verdict} {t : Bool} (reserved : ℕ)
         → found ≡ unlessHolds request t NoExtent
         → (isAccepted request ≡ true → t ≡ noExtent memory count)
-        → v ≡ thenCauses found (spareCauses (memory .blocks) (memory .sam .words) (memory .com .words) count reserved)
+        → v ≡ thenCauses found (ofVolume spareCauses memory count reserved)
         → (precommitError memory s ≡ none → reserved ≡ othersReserved (memory .reserves) s)
         → v ≡ verdict (allocateExtentError memory s count near list)
-    unfolding precommitError allocateExtentError reservedForOthers available
+    unfolding precommitError allocateExtentError
     extent-verdict reserved e tested spared others =
-        spared
-        ∙ rw (found-verdict e tested)
-        (then-same (first earlierCauses) _ _
-        (λ passed. ap (spareCauses (memory .blocks) (memory .sam .words) (memory .com .words) count) (others (none-before (take 5 earlierCauses) (drop 5 earlierCauses) passed)))
-        ∙ then-causes earlierCauses _)
+        then-read earlierCauses (ofVolume spareCauses memory count) spared (found-verdict e tested)
+        (λ passed. others (none-before (ofSlot openCauses memory s) _ passed))
 
   -- ---- the search
 

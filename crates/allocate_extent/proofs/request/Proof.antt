@@ -6,6 +6,7 @@ use lib.Dec.{leb, ltb}
 use borrow.Author.Needs.{needs}
 use Rattle.bitmap.specs.Sizes.{countInRange}
 use Rattle.model_types.specs.declared.error.Error.the-variants.{CountRange, ListShort, BlockRange}
+use Rattle.model.specs.Causes.{countOutOfRange, listShort, blockOutOfRange}
 use Rattle.verdicts.specs.declared.verdict.Verdict.{Verdict}
 use Rattle.verdicts.specs.Verdicts.{unlessHolds}
 use Rattle.verdicts.proofs.Laws.Verdicts.{three-tested}
@@ -25,6 +26,7 @@ unless-requires-3 : tie.Need-unless-requires-3
 unless-requires-3 c κs = search needs
 
 returns : tie.Need-returns
+unfolding countOutOfRange listShort blockOutOfRange
 returns c =
     let roomy = c .before .unless2 in
     let counted = c .before .before .unless in

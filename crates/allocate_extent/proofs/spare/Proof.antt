@@ -7,6 +7,7 @@ use lib.ListN.{length}
 use borrow.Author.Tests.{not-true, not-false, le-ltb}
 use Rattle.bitmap.specs.Blocks.{availableBlocks}
 use Rattle.model.specs.First.{first, firstOr}
+use Rattle.model.specs.Causes.{reservedForOthers}
 use Rattle.verdicts.proofs.Laws.Verdicts.{none-tested, then-tested, then-refused, then-accepted}
 use borrow.Author.Needs.{needs}
 use Rattle.allocate_extent.proofs.spare.Statement.{statement}
@@ -19,7 +20,7 @@ returns : tie.Need-returns
 returns c = then-refused _ _ (c .before .is-accepted .ensures) (not-true _ (c .if1 .taken))
 
 returns-2 : tie.Need-returns-2
-unfolding first firstOr
+unfolding first firstOr reservedForOthers
 returns-2 c =
     let past = c .before in
     let a = past .before .before .args in
@@ -40,6 +41,7 @@ unless-requires : tie.Need-unless-requires
 unless-requires c κs = search needs
 
 returns-3 : tie.Need-returns-3
+unfolding reservedForOthers
 returns-3 c =
     let fewer = c .before .leaves-fewer in
     let available = c .before .before .count-available in

@@ -5,8 +5,6 @@ use mathlib.Core.Path.{_≡_, refl, sym, ap, ap₂, _∙_}
 use mathlib.Core.Bool.{Bool, true, false, not, cond, xor, _&&_}
 use mathlib.Core.List.{List, [], _∷_, map}
 use lib.ListN.{length, getD, set}
-use lib.Dec.{eqb}
-use borrow.Author.Tests.{eqb-true}
 use Rattle.bitmap.specs.Sizes.{slotCount}
 use Rattle.bitmap.specs.Bits.{bit, bitmapOf, noBitsFrom, IsBitmap}
 use Rattle.bitmap.proofs.Laws.Bits.{bitmapOf-bit, bitmapOf-same}
@@ -18,28 +16,16 @@ use Rattle.model_types.specs.declared.memory.Pending.the-variants.{Nothing}
 use Rattle.model_types.specs.declared.memory.Memory.{Memory}
 use Rattle.model_types.specs.Memory.{bitmap, withTam, slotAt, idleSlot, reserveAt, reserveOf, noReserve, withSlot, withSlots, withSam, withReserves, withPending, samBit, isActive}
 use Rattle.model.specs.Reserves.{usedUp}
-use Rattle.model.specs.Valid.{takenBlocks}
-use Rattle.model.specs.Stores.{_≔_, changesFrom, changes}
+use Rattle.model.specs.Touched.{takenBlocks}
+use Rattle.model.specs.Stores.{changes}
 use Rattle.model.specs.Commit.{committedSam, refreshed, committed}
 use Rattle.model_types.proofs.Laws.Shape.{Shaped}
+use Rattle.model.proofs.Laws.Writes.{no-changes}
 use Rattle.model.proofs.Laws.Valid.{ValidParts, slot-below}
 use Rattle.model.proofs.Laws.Fit.{took-is, none-taken}
 use Rattle.model.proofs.Laws.Touches.{xor-self}
 
 -- ---- lists
-
--- where no word changes, the two are one
-no-changes : (k : ℕ) (old new : List ℕ) → length old ≡ length new → length (changesFrom k old new) ≡ 0 → old ≡ new
-unfolding changesFrom
-no-changes k [] [] l e = refl
-no-changes k [] (y ∷ ys) l e = absurd (omega arith)
-no-changes k (x ∷ xs) [] l e = absurd (omega arith)
-no-changes k (x ∷ xs) (y ∷ ys) l e = go (eqb x y) refl e (no-changes (suc k) xs ys (omega arith))
-  where
-    go : (t : Bool) → eqb x y ≡ t → length (cond t (changesFrom (suc k) xs ys) (k ≔ y ∷ changesFrom (suc k) xs ys)) ≡ 0
-        → (length (changesFrom (suc k) xs ys) ≡ 0 → xs ≡ ys) → x ∷ xs ≡ y ∷ ys
-    go true h z ih = ap₂ _∷_ (eqb-true x y h) (ih z)
-    go false h z ih = absurd (omega arith)
 
 -- a function that leaves each slot leaves the list
 map-same : (f : Slot → Slot) (slots : List Slot) → ((t : ℕ) → f (getD slots t idleSlot) ≡ getD slots t idleSlot) → map f slots ≡ slots
@@ -95,7 +81,7 @@ pub unchanged-committed : (memory : Memory) (s : ℕ) → Shaped memory → Vali
     → withSlot memory s idleSlot ≡ committed memory s
 unfolding committed
 unchanged-committed memory s shape parts below nothing made none =
-    let same = no-changes 0 (memory .sam .words) (slotAt memory s .tam .words) (shape .sam .size ∙ sym (shape .tam s .size)) none in
+    let same = no-changes (memory .sam .words) (slotAt memory s .tam .words) (shape .sam .size ∙ sym (shape .tam s .size)) none in
     let sam = made ∙ ap bitmap (sym same) in
     ap (λ (reserves : List Reserve). withReserves (withSlot memory s idleSlot) reserves) (nothing-used memory s parts below same)
     ∙ ap₂ (λ (slots : List Slot) (pending : Pending). withPending (withReserves (withSlots memory (set slots s idleSlot)) used) pending)

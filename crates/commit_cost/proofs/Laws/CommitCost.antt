@@ -1,7 +1,7 @@
 -- Commit cost: its verdict, and the blocks that its slot has touched, counted over whole bitmaps.
 use Prim.Native.Nat.{ℕ, _+_, _^_, _≤_, _<_}
 use native.Mathlib.Omega.{arith}
-use mathlib.Core.Path.{_≡_, ap, ap₂, _∙_}
+use mathlib.Core.Path.{_≡_, ap₂}
 use mathlib.Core.Bool.{xor}
 use mathlib.Core.Option.{none}
 use mathlib.Core.List.{List}
@@ -16,31 +16,26 @@ use Rattle.model_types.specs.declared.memory.Slot.{Slot}
 use Rattle.model_types.specs.declared.memory.Memory.{Memory}
 use Rattle.model_types.specs.Answers.{due}
 use Rattle.model_types.specs.Memory.{slotAt, volumeWords}
-use Rattle.model.specs.Valid.{touched}
-use Rattle.model.specs.Available.{available}
-use Rattle.model.specs.Causes.{countTooLarge, tooFewAvailable, reservedForOthers}
+use Rattle.model.specs.Touched.{touched, touchedBlocks}
+use Rattle.model.specs.Causes.{ofVolume}
+use Rattle.model.specs.CauseLists.{openCauses, ofSlot, costCauses}
 use Rattle.model.specs.Reserves.{othersReserved}
 use Rattle.model.specs.Calls.Precommit.{precommitError}
-use Rattle.model.specs.Calls.CommitCost.{commitCostError, touchedBlocks, costFor, commitCost, commitCostAnswer}
+use Rattle.model.specs.Calls.CommitCost.{commitCostError, costFor, commitCost, commitCostAnswer}
 use Rattle.model.proofs.Laws.Valid.{ValidParts, slot-below}
 use Rattle.verdicts.specs.declared.verdict.Verdict.{Verdict}
 use Rattle.verdicts.specs.Verdicts.{verdict, thenCauses}
-use Rattle.verdicts.proofs.Laws.Verdicts.{then-causes, then-same}
-use Rattle.commit_cost.specs.Causes.{costCauses}
+use Rattle.verdicts.proofs.Laws.Verdicts.{then-read}
 
 module _ (memory : Memory) (s count : ℕ) where
   -- its own causes after those of an open slot
   pub cost-verdict : {v earlier : Verdict} (reserved : ℕ)
-      → v ≡ thenCauses earlier (costCauses (memory .blocks) (memory .sam .words) (memory .com .words) count reserved)
+      → v ≡ thenCauses earlier (ofVolume costCauses memory count reserved)
       → earlier ≡ verdict (precommitError memory s)
       → (precommitError memory s ≡ none → reserved ≡ othersReserved (memory .reserves) s)
       → v ≡ verdict (commitCostError memory s count)
-  unfolding precommitError commitCostError countTooLarge tooFewAvailable reservedForOthers available
-  cost-verdict reserved e f g =
-      e
-      ∙ rw f
-      (then-same (precommitError memory s) _ _ (λ passed. ap (costCauses (memory .blocks) (memory .sam .words) (memory .com .words) count) (g passed))
-      ∙ then-causes _ _)
+  unfolding precommitError commitCostError
+  cost-verdict reserved e f g = then-read (ofSlot openCauses memory s) (ofVolume costCauses memory count) e f g
 
   module _ (parts : ValidParts memory) where
     -- t: the blocks of whole bitmaps are those below m, since no bitmap has bits from m on

@@ -3,6 +3,7 @@ use Prim.Native.Nat.{ℕ, _-_}
 use mathlib.Core.Path.{refl, sym, ap, _∙_}
 use lib.Dec.{ltb}
 use borrow.Author.Tests.{not-true, not-false}
+use Rattle.model.specs.Causes.{countTooLarge, tooFewAvailable, reservedForOthers}
 use Rattle.verdicts.proofs.Laws.Verdicts.{none-tested, then-tested, then-refused, then-accepted}
 use borrow.Author.Needs.{needs}
 use Rattle.commit_cost.proofs.enough.Statement.{statement}
@@ -32,6 +33,7 @@ unless-requires-3 : tie.Need-unless-requires-3
 unless-requires-3 c κs = search needs
 
 returns-2 : tie.Need-returns-2
+unfolding countTooLarge tooFewAvailable reservedForOthers
 returns-2 c =
     let fewer = c .before .leaves-fewer in
     let enough = c .before .before .unless2 in

@@ -1,7 +1,7 @@
 -- Commit: it ends at once where no word changes, and else its stores are pending, none of them done.
 use Prim.Native.Nat.{ℕ, _<_}
 use native.Mathlib.Omega.{arith}
-use mathlib.Core.Path.{_≡_, refl, sym, ap, _∙_}
+use mathlib.Core.Path.{_≡_, refl, sym}
 use mathlib.Core.Bool.{Bool, true, false, cond}
 use mathlib.Core.List.{List}
 use lib.ListN.{length}
@@ -12,17 +12,16 @@ use Rattle.bitmap.specs.Bits.{IsBitmap}
 use Rattle.model_types.specs.declared.memory.Memory.{Memory}
 use Rattle.model_types.specs.declared.memory.Pending.the-variants.{Commit}
 use Rattle.model_types.specs.Memory.{withPending}
-use Rattle.model.specs.Stores.{writes}
 use Rattle.model.specs.Commit.{changedOf, commitDue, committed}
-use Rattle.model.specs.Disk.{diskMatches}
-use Rattle.model.specs.Calls.Committing.{commitError, committing, commitMemory}
+use Rattle.model.specs.Calls.Committing.{committing}
 use Rattle.model.proofs.Laws.Valid.{ValidParts, valid-parts, parts-valid}
 use Rattle.model.proofs.Laws.Committed.{committed-valid}
 use Rattle.model.proofs.Laws.Pending.{begun-valid}
+use Rattle.model.proofs.Laws.Matching.{matches-begun}
 use Rattle.crash_safety.specs.InOrder.{Consistent}
-use Rattle.model.proofs.Laws.Accepted.{CommitAccepted, commit-accepted}
+use Rattle.model.proofs.Laws.Accepted.{CommitAccepted}
 use Rattle.crash_safety.proofs.Commit.{unchanged}
-use Rattle.crash_safety.proofs.InOrder.Refused.{unless-refused, same-sam}
+use Rattle.crash_safety.proofs.InOrder.Same.{same-sam}
 
 module _ (memory : Memory) (disk : List ℕ) (s : ℕ) (c : Consistent memory disk) (a : CommitAccepted memory s) where
   parts : ValidParts memory
@@ -37,25 +36,23 @@ module _ (memory : Memory) (disk : List ℕ) (s : ℕ) (c : Consistent memory di
 
   -- d is not 0
   begun : eqb (changedOf memory s) 0 ≡ false → Consistent (withPending memory (Commit s 0 (commitDue memory s))) disk
-  unfolding diskMatches writes
   begun changes-some =
       record {
         is-valid = parts-valid (withPending memory (Commit s 0 (commitDue memory s))) (begun-valid memory s changes-some parts (a .precommitted));
         size = c .size;
-        matches = sym (ap (diskMatches memory disk) (a .ready .nothing-pending)) ∙ c .matches;
+        matches = matches-begun memory disk s (commitDue memory s) (a .ready .nothing-pending) (c .matches);
       }
 
 pub commit-consistent : (memory : Memory) (disk : List ℕ) (s : ℕ)
     → length (memory .slots) ≡ slotCount
     → IsBitmap (memory .sam .words)
     → Consistent memory disk
-    → Consistent (commitMemory memory s) disk
-unfolding commitMemory committing
-commit-consistent memory disk s eight sam c =
-    unless-refused memory (committing memory s) disk (commitError memory s) c
-    (λ e. go (commit-accepted memory s e) (eqb (changedOf memory s) 0) refl)
+    → CommitAccepted memory s
+    → Consistent (committing memory s) disk
+unfolding committing
+commit-consistent memory disk s eight sam c a = go (eqb (changedOf memory s) 0) refl
   where
-    go : CommitAccepted memory s → (t : Bool) → eqb (changedOf memory s) 0 ≡ t
+    go : (t : Bool) → eqb (changedOf memory s) 0 ≡ t
         → Consistent (cond t (committed memory s) (withPending memory (Commit s 0 (commitDue memory s)))) disk
-    go a true e = ended memory disk s c a sam (omega (arith, a .ready .below)) (eqb-true (changedOf memory s) 0 e)
-    go a false e = begun memory disk s c a e
+    go true e = ended memory disk s c a sam (omega (arith, a .ready .below)) (eqb-true (changedOf memory s) 0 e)
+    go false e = begun memory disk s c a e

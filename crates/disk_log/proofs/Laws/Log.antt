@@ -16,8 +16,8 @@ use Rattle.model.specs.Sizes.{diskWords, logAt}
 use Rattle.model.specs.Stores.{_≔_}
 use Rattle.model.proofs.Laws.Writes.{and-first, and-second}
 use Rattle.disk_log.proofs.Laws.Tests.{and-left, and-none}
-use Rattle.model.proofs.Laws.Entries.{length-entriesIn}
-use Rattle.model.specs.Disk.{diskBlocks, logLength, entriesIn, logEntries, entriesValid, logValid}
+use Rattle.model.proofs.Laws.DiskParts.{entries-count}
+use Rattle.model.specs.Disk.{diskBlocks, logLength, entriesIn, logEntries, entriesValid, wordOneValid, logValid}
 
 -- ---- entries
 
@@ -42,11 +42,6 @@ entry-at disk i l few h =
     entry-in (logLength disk) (drop logAt disk) i h (omega (arith, length-drop logAt disk))
     ∙ rw (getD-drop logAt disk (2 * i) 0, getD-drop logAt disk (2 * i + 1) 0, ← add-assoc logAt (2 * i) 1)
 
--- there are as many as word 1 says
-pub entries-count : (disk : List ℕ) → length disk ≡ diskWords → logLength disk ≤ bitmapWords → length (logEntries disk) ≡ logLength disk
-unfolding logEntries
-entries-count disk l few = length-entriesIn (logLength disk) (drop logAt disk) (omega (arith, length-drop logAt disk))
-
 -- ---- words with no bits from one on
 
 -- 32 bits are all that a word has
@@ -57,13 +52,13 @@ all-bits word bits h l = lt-ltb word (2 ^ bits) (omega (arith, pow-mono l))
 
 -- a log is not valid if it has more entries than the volume's bitmap words
 pub log-too-long : (disk : List ℕ) → wordsFor (diskBlocks disk) < logLength disk → logValid disk ≡ false
-unfolding logValid
+unfolding logValid wordOneValid
 log-too-long disk h = rw (lt-leb (logLength disk) (wordsFor (diskBlocks disk)) h)
 
 -- else it is if its entries are
 pub log-entries : (disk : List ℕ) → logLength disk ≤ wordsFor (diskBlocks disk)
     → logValid disk ≡ entriesValid (diskBlocks disk) 0 (logEntries disk)
-unfolding logValid
+unfolding logValid wordOneValid
 log-entries disk h = rw (le-leb (logLength disk) (wordsFor (diskBlocks disk)) h)
 
 -- whether an entry may be the next of a log

@@ -12,8 +12,8 @@ use Rattle.model.specs.Stores.{_≔_, writes}
 use Rattle.model.specs.Disk.{diskBlocks, logLength, logEntries, logValid}
 use Rattle.model.proofs.Laws.Places.{Places, places-drop}
 use Rattle.model.proofs.Laws.Entries.{valid-places}
-use Rattle.model.proofs.Laws.DiskParts.{valid-log-length, valid-log-entries}
-use Rattle.disk_log.proofs.Laws.Log.{entry-at, entries-count}
+use Rattle.model.proofs.Laws.DiskParts.{valid-log-length, valid-log-entries, entries-count}
+use Rattle.disk_log.proofs.Laws.Log.{entry-at}
 
 -- a valid log has few entries
 pub entries-few : (disk : List ℕ) → diskBlocks disk ≤ maxBlocks → logValid disk ≡ true → logLength disk ≤ bitmapWords

@@ -2,7 +2,7 @@
 use Prim.Native.Nat.{ℕ, _+_, _-_, _*_, _<_}
 use mathlib.Core.Path.{_≡_, refl, sym, ap, ap₂, _∙_}
 use mathlib.Core.Bool.{Bool, true, false, cond, _&&_, and-assoc}
-use mathlib.Core.List.{List}
+use mathlib.Core.List.{List, []}
 use native.Mathlib.Nat.{sub-zero}
 use native.Mathlib.Omega.{arith}
 use lib.ListN.{length, take, drop}
@@ -12,13 +12,13 @@ use borrow.Author.Tests.{leb-true, leb-false}
 use Rattle.bitmap.specs.Sizes.{bitmapWords}
 use Rattle.model.specs.Sizes.{diskWords, bitmapAt, logAt}
 use Rattle.model_types.specs.Pending.{storesFor, changedFor}
-use Rattle.model.specs.Stores.{Store, writes, after, changes, logStores, commitStores}
+use Rattle.model.specs.Stores.{Store, writes, changes, logStores, commitStores}
 use Rattle.model.specs.Valid.{sameWords}
-use Rattle.model.specs.Disk.{lengthIn, diskBlocks, logLength, diskBitmap, diskOf, baseImage}
+use Rattle.model.specs.Disk.{lengthIn, diskBlocks, logLength, diskBitmap, diskOf, imageMatches}
 use Rattle.model.proofs.Laws.Writes.{length-writes, words-same}
 use Rattle.model.proofs.Laws.StoreLists.{length-logStores, changed-stores}
 use Rattle.model.proofs.Laws.Changes.{changes-length}
-use Rattle.model.proofs.Laws.DiskParts.{disk-parts, disk-bitmap-length, disk-log-length}
+use Rattle.model.proofs.Laws.DiskParts.{disk-parts, disk-bitmap-length, disk-tail-length}
 use Rattle.model.proofs.Laws.CommitLog.{CommitFrom, changes-from, commitDisk, commit-before, commit-after}
 use Rattle.disk_log.proofs.Laws.Tests.{and-right, same-append}
 use Rattle.disk_match.specs.Matching.{headIs, keptMatch, changedMatch, lengthAfter, checkpointedAfter}
@@ -60,12 +60,13 @@ commit-parts blocks sam log es done from h = go (leb done (2 * length es)) refl
 pub commit-tests : (blocks : ℕ) (disk sam new : List ℕ) (done due : ℕ) → length disk ≡ diskWords → length sam ≡ bitmapWords → length new ≡ bitmapWords
     → due ≡ storesFor (length (changes sam new))
     → done < due
-    → sameWords disk (after done (commitStores (changes sam new)) (baseImage blocks sam disk))
+    → imageMatches blocks sam disk done (commitStores (changes sam new))
     ≡ (headIs disk blocks (lengthAfter (changedFor due) done)
     && keptMatch disk 0 sam new
     && changedMatch disk done (checkpointedAfter (changedFor due) done) 0 0 sam new)
+unfolding imageMatches
 commit-tests blocks disk sam new done due l s n d h =
-    ap (sameWords disk) (commit-parts blocks sam log es done (changes-from sam new log s (disk-log-length disk l)) (omega arith))
+    ap (sameWords disk) (commit-parts blocks sam log es done (changes-from sam new log s (disk-tail-length disk l)) (omega arith))
     ∙ disk-same
     disk
     blocks
@@ -101,7 +102,8 @@ commit-tests blocks disk sam new done due l s n d h =
 
 -- with nothing pending: words 0 and 1, and the bitmap. Its log words mean nothing
 pub settled-tests : (blocks : ℕ) (disk sam : List ℕ) → length disk ≡ diskWords → length sam ≡ bitmapWords
-    → sameWords disk (baseImage blocks sam disk) ≡ (headIs disk blocks 0 && sameWords (diskBitmap disk) sam)
+    → imageMatches blocks sam disk 0 [] ≡ (headIs disk blocks 0 && sameWords (diskBitmap disk) sam)
+unfolding imageMatches writes
 settled-tests blocks disk sam l s =
     disk-same disk blocks 0 sam (drop logAt disk) l s
     ∙ ap (λ (t : Bool). headIs disk blocks 0 && t) (and-right (sameWords (diskBitmap disk) sam) (words-same (drop logAt disk)))

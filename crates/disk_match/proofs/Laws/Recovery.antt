@@ -16,7 +16,8 @@ use Rattle.model.specs.Disk.{diskBlocks, diskBitmap, logLength, logEntries, log
 use Rattle.model.proofs.Laws.Writes.{and-first, and-second}
 use Rattle.disk_log.specs.Given.{Logged}
 use Rattle.disk_log.proofs.Laws.Tests.{eqb-same}
-use Rattle.disk_log.proofs.Laws.Log.{entry-at, entries-count}
+use Rattle.model.proofs.Laws.DiskParts.{entries-count}
+use Rattle.disk_log.proofs.Laws.Log.{entry-at}
 use Rattle.disk_log.proofs.Laws.Given.{logged-few}
 use Rattle.disk_match.specs.Matching.{headIs, logAgrees}
 

@@ -1,6 +1,6 @@
 -- What the acceptance of a call tells, by name: for each call the causes of its list that don't hold. Below `cN` is what is
--- left of the list from cause N on.
-use Prim.Native.Nat.{ℕ, _-_, _≤_, _<_}
+-- left of the list from cause N on. What lists begin with alike is told once, by the laws `..-then`.
+use Prim.Native.Nat.{ℕ, _≤_, _<_}
 use native.Mathlib.Omega.{arith}
 use mathlib.Core.Path.{_≡_, refl, ap, _∙_}
 use mathlib.Core.Bool.{Bool, true, false, not, _&&_, false≢true}
@@ -10,14 +10,15 @@ use lib.ListN.{length}
 use lib.Dec.{leb, eqb}
 use borrow.Author.Tests.{leb-true, leb-false, ltb-true, ltb-false, lt-ltb, le-ltb, eqb-true, eqb-false, eq-eqb, not-false}
 use Rattle.bitmap.specs.Sizes.{slotCount, maxCount, blocksInRange, countInRange, slotInRange}
-use Rattle.model.specs.Types.{Error, Pending, Nothing, Commit, Recovery, Memory, MemoryInvalid, WorkPending, SlotRange, SlotIdle, SlotPrecommitted, SlotNotPrecommitted, CountRange, TooFewAvailable, ReservedForOthers}
+use Rattle.model.specs.Types.{Error, SlotState, Pending, Nothing, Commit, Recovery, Memory}
 use Rattle.model.specs.Sizes.{diskWords}
 use Rattle.model_types.specs.Memory.{slotAt, isActive, isPrecommitted, samBit, comBit}
 use Rattle.model.specs.Valid.{valid}
 use Rattle.model.specs.Disk.{diskMatches}
 use Rattle.model.specs.First.{Cause, first, firstOr, _⇒_}
 use Rattle.model.specs.Available.{available}
-use Rattle.model.specs.Causes.{memoryInvalid, diskLengthWrong, diskMismatched, blocksOutOfRange, nothingPending, workPending, slotOutOfRange, slotActive, slotInactive, slotPrecommitted, slotNotPrecommitted, countOutOfRange, countTooLarge, listShort, tooFewAvailable, blockOutOfRange, blockFree, blockFreeing, extentStarts, noExtent, overReserved, reservedForOthers}
+use Rattle.model.specs.Causes.{ofVolume, memoryInvalid, diskLengthWrong, diskMismatched, blocksOutOfRange, nothingPending, workPending, slotOutOfRange, slotActive, slotInactive, slotPrecommitted, slotNotPrecommitted, countOutOfRange, countTooLarge, listShort, tooFewAvailable, blockOutOfRange, blockFree, blockFreeing, extentStarts, noExtent, overReserved, reservedForOthers}
+use Rattle.model.specs.CauseLists.{readyCauses, activeCauses, openCauses, ofSlot}
 use Rattle.model_types.specs.Pending.{isNothing}
 use Rattle.model.specs.Calls.Format.{formatError}
 use Rattle.model.specs.Calls.Start.{startError}
@@ -33,26 +34,21 @@ use Rattle.model.specs.Calls.CommitCost.{commitCostError}
 use Rattle.model.specs.Calls.Reserve.{reserveError}
 use Rattle.model.specs.Reserves.{totalReserved, othersReserved, reserving}
 use Rattle.model.proofs.Laws.Reserves.{Spares}
-use Rattle.model.proofs.Laws.First.{first-none, none-first, none-append}
+use Rattle.model.proofs.Laws.First.{NoneHold, first-none, none-first, none-append}
 use Rattle.model.proofs.Laws.Writes.{and-first, and-second}
 
 -- ---- single causes
 
--- 1
-pub is-valid : (memory : Memory) → memoryInvalid memory ≡ false → valid memory ≡ true
-unfolding memoryInvalid
-is-valid memory e = not-false (valid memory) e
-
 -- 8
-is-nothing : (pending : Pending) → isNothing pending ≡ true → pending ≡ Nothing
+pub is-nothing : (pending : Pending) → isNothing pending ≡ true → pending ≡ Nothing
 unfolding isNothing
 is-nothing Nothing e = refl
 is-nothing (Commit s done due) e = cc
 is-nothing (Recovery done due) e = cc
 
-nothing-pending : (memory : Memory) → workPending memory ≡ false → memory .pending ≡ Nothing
+nothing-pending : (pending : Pending) → workPending pending ≡ false → pending ≡ Nothing
 unfolding workPending nothingPending
-nothing-pending memory e = is-nothing (memory .pending) (not-false (isNothing (memory .pending)) e)
+nothing-pending pending e = is-nothing pending (not-false (isNothing pending) e)
 
 -- 10
 slot-below : (s : ℕ) → slotOutOfRange s ≡ false → s < slotCount
@@ -60,9 +56,14 @@ unfolding slotOutOfRange slotInRange
 slot-below s e = ltb-true s slotCount (not-false (slotInRange s) e)
 
 -- 12
-slot-active : (memory : Memory) (s : ℕ) → slotInactive memory s ≡ false → isActive (slotAt memory s .state) ≡ true
+slot-active : (state : SlotState) → slotInactive state ≡ false → isActive state ≡ true
 unfolding slotInactive slotActive
-slot-active memory s e = not-false (isActive (slotAt memory s .state)) e
+slot-active state e = not-false (isActive state) e
+
+-- 14
+slot-precommitted : (state : SlotState) → slotNotPrecommitted state ≡ false → isPrecommitted state ≡ true
+unfolding slotNotPrecommitted slotPrecommitted
+slot-precommitted state e = not-false (isPrecommitted state) e
 
 -- 15
 module _ (count : ℕ) (e : countOutOfRange count ≡ false) where
@@ -82,14 +83,14 @@ unfolding listShort
 list-as-long list count e = ltb-false (length list) count e
 
 -- 17
-pub enough-available : (memory : Memory) (count : ℕ) → tooFewAvailable memory count ≡ false → count ≤ length (available memory)
-unfolding tooFewAvailable
-enough-available memory count e = ltb-false (length (available memory)) count e
+pub enough-available : (memory : Memory) (count : ℕ) → ofVolume tooFewAvailable memory count ≡ false → count ≤ length (available memory)
+unfolding tooFewAvailable available
+enough-available memory count e = ltb-false _ count e
 
 -- 18
-pub block-below : (memory : Memory) (b : ℕ) → blockOutOfRange memory b ≡ false → b < memory .blocks
+pub block-below : (blocks b : ℕ) → blockOutOfRange blocks b ≡ false → b < blocks
 unfolding blockOutOfRange
-block-below memory b e = leb-false (memory .blocks) b e
+block-below blocks b e = leb-false blocks b e
 
 -- 2
 disk-length : (disk : List ℕ) → diskLengthWrong disk ≡ false → length disk ≡ diskWords
@@ -107,19 +108,20 @@ unfolding noExtent
 extent-found memory count e = let some = eqb-false (length (extentStarts memory count)) 0 e in omega (arith, some)
 
 -- 23
-fits-reserved : (memory : Memory) (s reservation : ℕ) → overReserved memory s reservation ≡ false
-    → totalReserved (reserving memory s reservation .reserves) ≤ length (available memory)
-unfolding overReserved
-fits-reserved memory s reservation e = ltb-false (length (available memory)) (totalReserved (reserving memory s reservation .reserves)) e
+fits-reserved : (memory : Memory) (total : ℕ) → ofVolume overReserved memory total ≡ false → total ≤ length (available memory)
+unfolding overReserved available
+fits-reserved memory total e = ltb-false _ total e
 
 -- 24, and the other way round
-others-spared : (memory : Memory) (s count : ℕ) → reservedForOthers memory s count ≡ false → Spares memory s count
-unfolding reservedForOthers
-others-spared memory s count e = ltb-false (length (available memory) - count) (othersReserved (memory .reserves) s) e
+others-spared : (memory : Memory) (s count : ℕ) → ofVolume reservedForOthers memory count (othersReserved (memory .reserves) s) ≡ false
+    → Spares memory s count
+unfolding reservedForOthers available
+others-spared memory s count e = ltb-false _ (othersReserved (memory .reserves) s) e
 
-pub spared-others : (memory : Memory) (s count : ℕ) → Spares memory s count → reservedForOthers memory s count ≡ false
-unfolding reservedForOthers
-spared-others memory s count h = le-ltb (length (available memory) - count) (othersReserved (memory .reserves) s) h
+pub spared-others : (memory : Memory) (s count : ℕ) → Spares memory s count
+    → ofVolume reservedForOthers memory count (othersReserved (memory .reserves) s) ≡ false
+unfolding reservedForOthers available
+spared-others memory s count h = le-ltb _ (othersReserved (memory .reserves) s) h
 
 -- ---- the eight transaction calls, commit cost and reserve
 
@@ -129,23 +131,30 @@ pub record Ready (memory : Memory) (s : ℕ) : Type 0 where
   pub nothing-pending : memory .pending ≡ Nothing
   pub below : s < slotCount
 
-pub ready-of : (memory : Memory) (s : ℕ) → memoryInvalid memory ≡ false → workPending memory ≡ false → slotOutOfRange s ≡ false → Ready memory s
-ready-of memory s c1 c8 c10 =
-    record { is-valid = is-valid memory c1; nothing-pending = nothing-pending memory c8; below = slot-below s c10 }
-
 module _ (memory : Memory) (s : ℕ) where
+  -- where a list begins with them: that they don't hold, and none of the rest does
+  ready-then : (more : List Cause) → first (readyCauses (valid memory) (memory .pending) s ++ more) ≡ none → Ready memory s × NoneHold more
+  unfolding memoryInvalid
+  ready-then more e =
+      let c1 = first-none _ e in
+      let c8 = c1 .1 in
+      let c10 = c8 .1 in (
+        record {
+          is-valid = not-false (valid memory) (c1 .0);
+          nothing-pending = nothing-pending (memory .pending) (c8 .0);
+          below = slot-below s (c10 .0);
+        },
+        c10 .1,
+      )
+
+  -- and 11
   pub record StartAccepted : Type 0 where
     pub ready : Ready memory s
     pub idle : isActive (slotAt memory s .state) ≡ false
 
   pub start-accepted : startError memory s ≡ none → StartAccepted
   unfolding startError slotActive
-  start-accepted e =
-      let c1 = first-none _ e in
-      let c8 = c1 .1 in
-      let c10 = c8 .1 in
-      let c11 = c10 .1 in
-      record { ready = ready-of memory s (c1 .0) (c8 .0) (c10 .0); idle = c11 .0 }
+  start-accepted e = let t = ready-then _ e in record { ready = t .0; idle = t .1 .0 }
 
   pub record ReserveAccepted (reservation : ℕ) : Type 0 where
     pub ready : Ready memory s
@@ -155,12 +164,60 @@ module _ (memory : Memory) (s : ℕ) where
   pub reserve-accepted : (reservation : ℕ) → reserveError memory s reservation ≡ none → ReserveAccepted reservation
   unfolding reserveError slotActive
   reserve-accepted reservation e =
-      let c1 = first-none _ e in
-      let c8 = c1 .1 in
-      let c10 = c8 .1 in
-      let c11 = c10 .1 in
+      let t = ready-then _ e in
+      let c11 = t .1 in
       let c23 = c11 .1 in
-      record { ready = ready-of memory s (c1 .0) (c8 .0) (c10 .0); idle = c11 .0; fits = fits-reserved memory s reservation (c23 .0) }
+      record { ready = t .0; idle = c11 .0; fits = fits-reserved memory _ (c23 .0) }
+
+  -- and 12: what drop and revoke tell alike
+  pub record RollbackAccepted : Type 0 where
+    pub ready : Ready memory s
+    pub active : isActive (slotAt memory s .state) ≡ true
+
+  active-then : (more : List Cause) → first (ofSlot activeCauses memory s ++ more) ≡ none → RollbackAccepted × NoneHold more
+  active-then more e =
+      let t = ready-then _ e in
+      let c12 = t .1 in
+      (record { ready = t .0; active = slot-active _ (c12 .0) }, c12 .1)
+
+  -- and the other way round
+  accepted-active : RollbackAccepted → first (ofSlot activeCauses memory s) ≡ none
+  unfolding first firstOr memoryInvalid workPending nothingPending isNothing slotOutOfRange slotInRange slotInactive slotActive
+  accepted-active a = rw (a .ready .is-valid, a .ready .nothing-pending, lt-ltb s slotCount (a .ready .below), a .active)
+
+  -- and 13: an open slot
+  pub record PrecommitAccepted : Type 0 where
+    pub ready : Ready memory s
+    pub active : isActive (slotAt memory s .state) ≡ true
+    pub not-precommitted : isPrecommitted (slotAt memory s .state) ≡ false
+
+  -- whichever error 13 has
+  open-then : (error : Error) (more : List Cause) → first (ofSlot activeCauses memory s ++ (slotPrecommitted (slotAt memory s .state) ⇒ error ∷ more)) ≡ none
+      → PrecommitAccepted × NoneHold more
+  unfolding slotPrecommitted
+  open-then error more e =
+      let t = active-then _ e in
+      let c13 = t .1 in
+      (record { ready = t .0 .ready; active = t .0 .active; not-precommitted = c13 .0 }, c13 .1)
+
+  pub precommit-accepted : precommitError memory s ≡ none → PrecommitAccepted
+  unfolding precommitError
+  precommit-accepted e = open-then _ [] e .0
+
+  -- and the other way round
+  pub accepted-precommit : PrecommitAccepted → precommitError memory s ≡ none
+  unfolding precommitError slotPrecommitted
+  accepted-precommit a =
+      none-append (ofSlot activeCauses memory s) _ (accepted-active (record { ready = a .ready; active = a .active }))
+      ∙ none-first _ (a .not-precommitted, tt)
+
+  -- a drop tells what a precommit does
+  pub drop-accepted : dropError memory s ≡ none → PrecommitAccepted
+  unfolding dropError
+  drop-accepted e = open-then _ [] e .0
+
+  pub drop-rolls-back : dropError memory s ≡ none → RollbackAccepted
+  drop-rolls-back e = let a = drop-accepted e in record { ready = a .ready; active = a .active }
 
   pub record AllocateAccepted (count : ℕ) (list : List ℕ) : Type 0 where
     pub ready : Ready memory s
@@ -173,21 +230,17 @@ module _ (memory : Memory) (s : ℕ) where
     pub spares : Spares memory s count
 
   pub allocate-accepted : (count : ℕ) (list : List ℕ) → allocateError memory s count list ≡ none → AllocateAccepted count list
-  unfolding allocateError slotPrecommitted
+  unfolding allocateError
   allocate-accepted count list e =
-      let c1 = first-none _ e in
-      let c8 = c1 .1 in
-      let c10 = c8 .1 in
-      let c12 = c10 .1 in
-      let c13 = c12 .1 in
-      let c15 = c13 .1 in
+      let t = open-then _ _ e in
+      let c15 = t .1 in
       let c16 = c15 .1 in
       let c17 = c16 .1 in
       let c24 = c17 .1 in
       record {
-        ready = ready-of memory s (c1 .0) (c8 .0) (c10 .0);
-        active = slot-active memory s (c12 .0);
-        not-precommitted = c13 .0;
+        ready = t .0 .ready;
+        active = t .0 .active;
+        not-precommitted = t .0 .not-precommitted;
         some = count-some count (c15 .0);
         few = count-few count (c15 .0);
         room = list-as-long list count (c16 .0);
@@ -207,26 +260,22 @@ module _ (memory : Memory) (s : ℕ) where
     pub spares : Spares memory s count
 
   pub allocate-extent-accepted : (count near : ℕ) (list : List ℕ) → allocateExtentError memory s count near list ≡ none → AllocateExtentAccepted count near list
-  unfolding allocateExtentError slotPrecommitted
+  unfolding allocateExtentError
   allocate-extent-accepted count near list e =
-      let c1 = first-none _ e in
-      let c8 = c1 .1 in
-      let c10 = c8 .1 in
-      let c12 = c10 .1 in
-      let c13 = c12 .1 in
-      let c15 = c13 .1 in
+      let t = open-then _ _ e in
+      let c15 = t .1 in
       let c16 = c15 .1 in
       let c18 = c16 .1 in
       let c22 = c18 .1 in
       let c24 = c22 .1 in
       record {
-        ready = ready-of memory s (c1 .0) (c8 .0) (c10 .0);
-        active = slot-active memory s (c12 .0);
-        not-precommitted = c13 .0;
+        ready = t .0 .ready;
+        active = t .0 .active;
+        not-precommitted = t .0 .not-precommitted;
         some = count-some count (c15 .0);
         few = count-few count (c15 .0);
         room = list-as-long list count (c16 .0);
-        near-below = block-below memory near (c18 .0);
+        near-below = block-below (memory .blocks) near (c18 .0);
         found = extent-found memory count (c22 .0);
         spares = others-spared memory s count (c24 .0);
       }
@@ -240,82 +289,21 @@ module _ (memory : Memory) (s : ℕ) where
     pub unfreed : comBit memory block ≡ true
 
   pub deallocate-accepted : (block : ℕ) → deallocateError memory s block ≡ none → DeallocateAccepted block
-  unfolding deallocateError slotPrecommitted blockFree blockFreeing
+  unfolding deallocateError blockFree blockFreeing
   deallocate-accepted block e =
-      let c1 = first-none _ e in
-      let c8 = c1 .1 in
-      let c10 = c8 .1 in
-      let c12 = c10 .1 in
-      let c13 = c12 .1 in
-      let c18 = c13 .1 in
+      let t = open-then _ _ e in
+      let c18 = t .1 in
       let c19 = c18 .1 in
       let c20 = c19 .1 in
       let allocated : samBit memory block ≡ true = not-false (samBit memory block) (c19 .0) in
       record {
-        ready = ready-of memory s (c1 .0) (c8 .0) (c10 .0);
-        active = slot-active memory s (c12 .0);
-        not-precommitted = c13 .0;
-        block-below = block-below memory block (c18 .0);
+        ready = t .0 .ready;
+        active = t .0 .active;
+        not-precommitted = t .0 .not-precommitted;
+        block-below = block-below (memory .blocks) block (c18 .0);
         allocated = allocated;
         unfreed = both-set (samBit memory block) (comBit memory block) allocated (c20 .0);
       }
-
-  -- what drop and revoke tell alike
-  pub record RollbackAccepted : Type 0 where
-    pub ready : Ready memory s
-    pub active : isActive (slotAt memory s .state) ≡ true
-
-  -- the causes with which the lists of all calls but start begin, and that none of them holds then
-  abbrev activeCauses : List Cause
-  activeCauses =
-      memoryInvalid memory ⇒ MemoryInvalid
-      ∷ workPending memory ⇒ WorkPending
-      ∷ slotOutOfRange s ⇒ SlotRange
-      ∷ slotInactive memory s ⇒ SlotIdle
-      ∷ []
-
-  accepted-active : RollbackAccepted → first activeCauses ≡ none
-  unfolding first firstOr memoryInvalid workPending nothingPending isNothing slotOutOfRange slotInRange slotInactive slotActive
-  accepted-active a = rw (a .ready .is-valid, a .ready .nothing-pending, lt-ltb s slotCount (a .ready .below), a .active)
-
-  -- where a list goes on with one cause more
-  record OneCauseMore (holds : Bool) : Type 0 where
-    pub ready : Ready memory s
-    pub active : isActive (slotAt memory s .state) ≡ true
-    pub passed : holds ≡ false
-
-  one-cause-more : (holds : Bool) (error : Error) → first (activeCauses ++ (holds ⇒ error ∷ [])) ≡ none → OneCauseMore holds
-  one-cause-more holds error e =
-      let c1 = first-none _ e in
-      let c8 = c1 .1 in
-      let c10 = c8 .1 in
-      let c12 = c10 .1 in
-      let last = c12 .1 in
-      record { ready = ready-of memory s (c1 .0) (c8 .0) (c10 .0); active = slot-active memory s (c12 .0); passed = last .0 }
-
-  pub record PrecommitAccepted : Type 0 where
-    pub ready : Ready memory s
-    pub active : isActive (slotAt memory s .state) ≡ true
-    pub not-precommitted : isPrecommitted (slotAt memory s .state) ≡ false
-
-  pub precommit-accepted : precommitError memory s ≡ none → PrecommitAccepted
-  unfolding precommitError slotPrecommitted
-  precommit-accepted e = let a = one-cause-more _ _ e in record { ready = a .ready; active = a .active; not-precommitted = a .passed }
-
-  -- and the other way round
-  pub accepted-precommit : PrecommitAccepted → precommitError memory s ≡ none
-  unfolding precommitError slotPrecommitted
-  accepted-precommit a =
-      none-append _ (slotPrecommitted memory s ⇒ SlotPrecommitted ∷ []) (accepted-active (record { ready = a .ready; active = a .active }))
-      ∙ none-first _ (a .not-precommitted, tt)
-
-  -- a drop tells what a precommit does
-  pub drop-accepted : dropError memory s ≡ none → PrecommitAccepted
-  unfolding dropError slotPrecommitted
-  drop-accepted e = let a = one-cause-more _ _ e in record { ready = a .ready; active = a .active; not-precommitted = a .passed }
-
-  pub drop-rolls-back : dropError memory s ≡ none → RollbackAccepted
-  drop-rolls-back e = let a = drop-accepted e in record { ready = a .ready; active = a .active }
 
   pub record CommitCostAccepted (count : ℕ) : Type 0 where
     pub ready : Ready memory s
@@ -326,20 +314,16 @@ module _ (memory : Memory) (s : ℕ) where
     pub spares : Spares memory s count
 
   pub commit-cost-accepted : (count : ℕ) → commitCostError memory s count ≡ none → CommitCostAccepted count
-  unfolding commitCostError slotPrecommitted countTooLarge
+  unfolding commitCostError countTooLarge
   commit-cost-accepted count e =
-      let c1 = first-none _ e in
-      let c8 = c1 .1 in
-      let c10 = c8 .1 in
-      let c12 = c10 .1 in
-      let c13 = c12 .1 in
-      let c15 = c13 .1 in
+      let t = open-then _ _ e in
+      let c15 = t .1 in
       let c17 = c15 .1 in
       let c24 = c17 .1 in
       record {
-        ready = ready-of memory s (c1 .0) (c8 .0) (c10 .0);
-        active = slot-active memory s (c12 .0);
-        not-precommitted = c13 .0;
+        ready = t .0 .ready;
+        active = t .0 .active;
+        not-precommitted = t .0 .not-precommitted;
         few = ltb-false maxCount count (c15 .0);
         enough = enough-available memory count (c17 .0);
         spares = others-spared memory s count (c24 .0);
@@ -347,38 +331,39 @@ module _ (memory : Memory) (s : ℕ) where
 
   -- and the other way round: an open slot, as precommit asks for it, and the count
   pub accepted-commit-cost : (count : ℕ) → CommitCostAccepted count → commitCostError memory s count ≡ none
-  unfolding precommitError commitCostError countTooLarge tooFewAvailable
+  unfolding precommitError commitCostError countTooLarge tooFewAvailable available
   accepted-commit-cost count a =
-      none-append _
-      (countTooLarge count ⇒ CountRange ∷ tooFewAvailable memory count ⇒ TooFewAvailable ∷ reservedForOthers memory s count ⇒ ReservedForOthers ∷ [])
+      none-append (ofSlot openCauses memory s) _
       (accepted-precommit (record { ready = a .ready; active = a .active; not-precommitted = a .not-precommitted }))
-      ∙ none-first _
-      (le-ltb maxCount count (a .few), (le-ltb (length (available memory)) count (a .enough), (spared-others memory s count (a .spares), tt)))
+      ∙ none-first _ (le-ltb maxCount count (a .few), (le-ltb _ count (a .enough), (spared-others memory s count (a .spares), tt)))
 
+  -- and 14: a precommitted slot
   pub record CommitAccepted : Type 0 where
     pub ready : Ready memory s
     pub active : isActive (slotAt memory s .state) ≡ true
     pub precommitted : isPrecommitted (slotAt memory s .state) ≡ true
 
+  precommitted-then : (error : Error) → first (ofSlot activeCauses memory s ++ (slotNotPrecommitted (slotAt memory s .state) ⇒ error ∷ [])) ≡ none → CommitAccepted
+  precommitted-then error e =
+      let t = active-then _ e in
+      let c14 = t .1 in
+      record { ready = t .0 .ready; active = t .0 .active; precommitted = slot-precommitted _ (c14 .0) }
+
   pub commit-accepted : commitError memory s ≡ none → CommitAccepted
-  unfolding commitError slotNotPrecommitted slotPrecommitted
-  commit-accepted e =
-      let a = one-cause-more _ _ e in
-      record { ready = a .ready; active = a .active; precommitted = not-false (isPrecommitted (slotAt memory s .state)) (a .passed) }
+  unfolding commitError
+  commit-accepted e = precommitted-then _ e
 
   -- and the other way round
   pub accepted-commit : CommitAccepted → commitError memory s ≡ none
   unfolding commitError slotNotPrecommitted slotPrecommitted
   accepted-commit a =
-      none-append _ (slotNotPrecommitted memory s ⇒ SlotNotPrecommitted ∷ []) (accepted-active (record { ready = a .ready; active = a .active }))
+      none-append (ofSlot activeCauses memory s) _ (accepted-active (record { ready = a .ready; active = a .active }))
       ∙ none-first _ (ap not (a .precommitted), tt)
 
   -- a revoke tells what a commit does
   pub revoke-accepted : revokeError memory s ≡ none → CommitAccepted
-  unfolding revokeError slotNotPrecommitted slotPrecommitted
-  revoke-accepted e =
-      let a = one-cause-more _ _ e in
-      record { ready = a .ready; active = a .active; precommitted = not-false (isPrecommitted (slotAt memory s .state)) (a .passed) }
+  unfolding revokeError
+  revoke-accepted e = precommitted-then _ e
 
   pub revoke-rolls-back : revokeError memory s ≡ none → RollbackAccepted
   revoke-rolls-back e = let a = revoke-accepted e in record { ready = a .ready; active = a .active }
@@ -393,21 +378,21 @@ module _ (memory : Memory) (disk : List ℕ) where
     pub pending : isNothing (memory .pending) ≡ false
 
   pub store-accepted : storeError memory disk ≡ none → StoreAccepted
-  unfolding storeError diskMismatched nothingPending
+  unfolding storeError memoryInvalid diskMismatched diskMatches nothingPending
   store-accepted e =
       let c1 = first-none _ e in
       let c2 = c1 .1 in
       let c6 = c2 .1 in
       let c9 = c6 .1 in
       record {
-        is-valid = is-valid memory (c1 .0);
+        is-valid = not-false (valid memory) (c1 .0);
         size = disk-length disk (c2 .0);
         matches = not-false (diskMatches memory disk (memory .pending)) (c6 .0);
         pending = c9 .0;
       }
 
   pub accepted-store : StoreAccepted → storeError memory disk ≡ none
-  unfolding storeError memoryInvalid diskLengthWrong diskMismatched nothingPending
+  unfolding storeError memoryInvalid diskLengthWrong diskMismatched diskMatches nothingPending
   accepted-store a =
       none-first _
       (ap not (a .is-valid), (ap not (eq-eqb (length disk) diskWords (a .size)), (ap not (a .matches), (a .pending, tt))))

@@ -11,7 +11,7 @@ use Rattle.bitmap.proofs.Laws.Bits.{bit-below, bit-from, bitmapOf-bits, below-o
 use Rattle.bitmap.proofs.Laws.Majority.{majority-untouched, majority-touched}
 use Rattle.model.specs.Types.{Bitmap, Memory}
 use Rattle.model_types.specs.Memory.{slotAt, withTam, isActive, samBit, comBit, tamBit, volumeBitmap}
-use Rattle.model.specs.Valid.{touched}
+use Rattle.model.specs.Touched.{touched}
 use Rattle.model.specs.Commit.{committedSam, refreshed}
 use Rattle.model.proofs.Laws.Valid.{ValidParts, touchesBlock, touches-at, touches-one, touches-two, slot-below}
 

@@ -11,17 +11,17 @@ use lib.Dec.{eqb}
 use borrow.Author.Tests.{eqb-false, eq-eqb, ne-eqb}
 use Rattle.bitmap.specs.Bits.{IsBitmap}
 use Rattle.model.specs.Types.{Error, Precommitted, Slot, Memory, GrantAnswer}
-use Rattle.model_types.specs.Answers.{due, done}
+use Rattle.model_types.specs.Answers.{due}
 use Rattle.model_types.specs.Pending.{storesFor}
 use Rattle.model_types.specs.Memory.{slotAt, withState, isActive, isPrecommitted, volumeWords}
 use Rattle.model.specs.First.{unlessRefused}
 use Rattle.model.specs.Commit.{changedOf, commitDue}
-use Rattle.model.specs.Valid.{touched}
+use Rattle.model.specs.Touched.{touchedBlocks}
 use Rattle.model.specs.Calls.Allocate.{allocateError, firstMet, taking, allocateAnswer, allocateMemory}
 use Rattle.model.specs.Calls.Precommit.{precommitting, precommitAnswer, precommitMemory}
 use Rattle.model.specs.Calls.Committing.{commitAnswer}
 use Rattle.model.specs.Calls.Status.{counts}
-use Rattle.model.specs.Calls.CommitCost.{commitCostError, touchedBlocks, costFor, commitCost, commitCostAnswer}
+use Rattle.model.specs.Calls.CommitCost.{commitCostError, costFor, commitCost, commitCostAnswer}
 use Rattle.model.specs.FourCounts.{Eligible}
 use Rattle.model.specs.CostKept.{CommitsWithin, CommitCostKept, CommitCostAnswered, CommitCostAtMost}
 use Rattle.model.proofs.Laws.Fields.{open-state, slot-same, active-there}
@@ -33,7 +33,7 @@ use Rattle.model.proofs.Laws.Pending.{commit-due}
 use Rattle.model.proofs.Laws.Untouched.{precommitted-valid}
 use Rattle.model.proofs.Laws.Taking.{grant-valid, taking-state, met-available, met-distinct, met-length}
 use Rattle.model.proofs.Laws.TouchedBlocks.{changed-touched, changed-words}
-use Rattle.model.proofs.Laws.TouchedBy.{touchedBy, active-touched, taking-touches, precommitting-touches}
+use Rattle.model.proofs.Laws.TouchedBy.{touchedBy, active-touched, none-more, taking-touches, precommitting-touches}
 
 -- ---- the stores of a commit
 
@@ -90,17 +90,17 @@ module _ (memory : Memory) (s blocks : ℕ) (a : PrecommitAccepted memory s) (is
         arith,
         changed-touched after s parts-after active-after is,
         active-touched after s active-after,
-        precommitting-touches memory s s there (a .active) .few,
+        none-more (eqb s s) (precommitting-touches memory s s there (a .active)) .few,
         few,
       ))
       (changed-words after s parts-after active-after)
 
   pub commits-within : CommitsWithin memory s (costFor (volumeWords memory) blocks)
-  unfolding precommitAnswer precommitMemory commitAnswer done due unlessRefused
+  unfolding precommitAnswer precommitMemory commitAnswer due unlessRefused
   commits-within =
       let accepted = accepted-precommit memory s a in
       record {
-        precommits = ap done accepted;
+        precommits = ap (λ (error : Option Error). due error 0) accepted;
         stores = commitDue after s;
         commits = rw (accepted, accepted-commit after s commit-ready);
         within = within-after;

@@ -16,7 +16,8 @@ use Rattle.model.specs.Types.{Bitmap, Slot, Reserve, Memory}
 use Rattle.model_types.specs.Memory.{slotAt, reserveAt, noReserve, idleSlot, isActive, samBit, comBit, tamBit, withTam, volumeBitmap}
 use Rattle.model.specs.Commit.{committedSam, refreshed, committed}
 use Rattle.model.specs.Reserves.{usedUp}
-use Rattle.model.specs.Valid.{touched, took, takenBlocks, slotValid, pendingValid}
+use Rattle.model.specs.Touched.{touched, takenBlocks}
+use Rattle.model.specs.Valid.{slotValid, pendingValid}
 use Rattle.model.proofs.Laws.Valid.{ReservesFit, ValidParts, touchesBlock, idle-valid}
 use Rattle.model.proofs.Laws.Reserves.{total-split, total-set-le, drawn-set-le}
 use Rattle.model.proofs.Laws.Fit.{availableIn, took-is, as-available, as-taken, idle-drawn}

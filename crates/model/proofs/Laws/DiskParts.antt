@@ -11,13 +11,14 @@ use lib.Dec.{leb, eqb}
 use borrow.Author.Tests.{leb-true, le-leb, eqb-true, eq-eqb, not-false}
 use Rattle.bitmap.specs.Sizes.{maxBlocks, bitmapWords, wordsFor, blocksInRange}
 use Rattle.bitmap.specs.Bits.{noBitsFrom}
-use Rattle.model.specs.Sizes.{diskWords, bitmapAt, logAt, logWords}
+use Rattle.model.specs.Sizes.{diskWords, bitmapAt, logAt, tailWords}
 use Rattle.model.specs.Stores.{Store, writes, onDisk, commitPoint}
-use Rattle.model.specs.Disk.{diskBlocks, wordOne, lengthIn, logLength, diskBitmap, diskOf, entriesIn, logEntries, entriesValid, logValid, durable}
+use Rattle.model.specs.Disk.{diskBlocks, wordOne, lengthIn, logLength, diskBitmap, diskOf, entriesIn, logEntries, entriesValid, wordOneValid, logValid, durable}
 use Rattle.model.specs.Causes.{diskLengthWrong, diskBlocksWrong, diskBitmapWrong, diskLogWrong}
 use Rattle.model.specs.Calls.Opening.{openError}
 use Rattle.model.proofs.Laws.First.{first-none, none-first}
 use Rattle.model.proofs.Laws.Writes.{and-both, and-first, and-second}
+use Rattle.model.proofs.Laws.Entries.{length-entriesIn}
 use Rattle.model.proofs.Laws.Places.{Places, writes-shift, writes-append-left}
 
 -- a disk that opens: none of the causes 2 to 5 holds
@@ -27,6 +28,7 @@ pub record Opens (disk : List ℕ) : Type 0 where
   pub few-blocks : diskBlocks disk ≤ maxBlocks
   pub noBits : noBitsFrom (diskBlocks disk) (diskBitmap disk) ≡ true
   pub few-entries : logLength disk ≤ wordsFor (diskBlocks disk)
+  pub word-one : wordOneValid (diskBlocks disk) (wordOne disk) ≡ true
   pub entries : entriesValid (diskBlocks disk) 0 (logEntries disk) ≡ true
 
 pub blocks-inRange : (blocks : ℕ) → 1 ≤ blocks → blocks ≤ maxBlocks → blocksInRange blocks ≡ true
@@ -41,22 +43,25 @@ pub inRange-high : (blocks : ℕ) → blocksInRange blocks ≡ true → blocks �
 unfolding blocksInRange
 inRange-high blocks p = leb-true blocks maxBlocks (and-second (leb 1 blocks) (leb blocks maxBlocks) p)
 
-pub log-valid : (disk : List ℕ) → logLength disk ≤ wordsFor (diskBlocks disk) → entriesValid (diskBlocks disk) 0 (logEntries disk) ≡ true → logValid disk ≡ true
+-- what cause 5 asks of word 1
+pub word-few : (blocks word : ℕ) → wordOneValid blocks word ≡ true → lengthIn word ≤ wordsFor blocks
+unfolding wordOneValid
+word-few blocks word e = leb-true (lengthIn word) (wordsFor blocks) e
+
+pub log-valid : (disk : List ℕ) → wordOneValid (diskBlocks disk) (wordOne disk) ≡ true → entriesValid (diskBlocks disk) 0 (logEntries disk) ≡ true → logValid disk ≡ true
 unfolding logValid
-log-valid disk h p = and-both (le-leb (logLength disk) (wordsFor (diskBlocks disk)) h) p
+log-valid disk h p = and-both h p
+
+pub valid-word-one : (disk : List ℕ) → logValid disk ≡ true → wordOneValid (diskBlocks disk) (wordOne disk) ≡ true
+unfolding logValid
+valid-word-one disk p = and-first (wordOneValid (diskBlocks disk) (wordOne disk)) (entriesValid (diskBlocks disk) 0 (logEntries disk)) p
 
 pub valid-log-length : (disk : List ℕ) → logValid disk ≡ true → logLength disk ≤ wordsFor (diskBlocks disk)
-unfolding logValid
-valid-log-length disk p =
-    leb-true
-    (logLength disk)
-    (wordsFor (diskBlocks disk))
-    (and-first (leb (logLength disk) (wordsFor (diskBlocks disk))) (entriesValid (diskBlocks disk) 0 (logEntries disk)) p)
+valid-log-length disk p = word-few (diskBlocks disk) (wordOne disk) (valid-word-one disk p)
 
 pub valid-log-entries : (disk : List ℕ) → logValid disk ≡ true → entriesValid (diskBlocks disk) 0 (logEntries disk) ≡ true
 unfolding logValid
-valid-log-entries disk p =
-    and-second (leb (logLength disk) (wordsFor (diskBlocks disk))) (entriesValid (diskBlocks disk) 0 (logEntries disk)) p
+valid-log-entries disk p = and-second (wordOneValid (diskBlocks disk) (wordOne disk)) (entriesValid (diskBlocks disk) 0 (logEntries disk)) p
 
 pub opens-parts : (disk : List ℕ) → openError disk ≡ none → Opens disk
 unfolding openError diskLengthWrong diskBlocksWrong diskBitmapWrong diskLogWrong
@@ -73,6 +78,7 @@ opens-parts disk p =
       few-blocks = inRange-high (diskBlocks disk) range;
       noBits = not-false (noBitsFrom (diskBlocks disk) (diskBitmap disk)) (c4 .0);
       few-entries = valid-log-length disk log;
+      word-one = valid-word-one disk log;
       entries = valid-log-entries disk log;
     }
 
@@ -86,7 +92,7 @@ parts-open disk o =
         ap not (blocks-inRange (diskBlocks disk) (o .some-blocks) (o .few-blocks)),
         (
           ap not (o .noBits),
-          (ap not (log-valid disk (o .few-entries) (o .entries)), tt),
+          (ap not (log-valid disk (o .word-one) (o .entries)), tt),
         ),
       ),
     )
@@ -96,39 +102,48 @@ pub none-told : lengthIn 0 ≡ 0
 unfolding lengthIn
 none-told = refl
 
--- and at no other number it tells that
-pub told-none : (word : ℕ) → lengthIn word ≡ 0 → word ≡ 0
+-- and at no other number that cause 5 passes it tells that
+pub told-none : (blocks word : ℕ) → wordOneValid blocks word ≡ true → lengthIn word ≡ 0 → word ≡ 0
 unfolding lengthIn
-told-none word e = e
+told-none blocks word v e = e
 
 pub point-told : (es : List Store) → lengthIn (commitPoint es) ≡ length es
 unfolding lengthIn
 point-told es = refl
 
+-- cause 5 passes word 1 at 0, and at a commit point of at most W entries
+pub zero-valid : (blocks : ℕ) → wordOneValid blocks 0 ≡ true
+unfolding wordOneValid
+zero-valid blocks = le-leb (lengthIn 0) (wordsFor blocks) (omega (arith, none-told))
+
+pub point-valid : (blocks : ℕ) (es : List Store) → length es ≤ wordsFor blocks → wordOneValid blocks (commitPoint es) ≡ true
+unfolding wordOneValid
+point-valid blocks es few = le-leb (lengthIn (commitPoint es)) (wordsFor blocks) (omega (arith, point-told es))
+
 -- the parts of a disk that is given by its parts
 
-module _ (blocks word : ℕ) (words log : List ℕ) (size : length words ≡ bitmapWords) where
-  pub diskOf-bitmap : diskBitmap (diskOf blocks word words log) ≡ words
-  diskOf-bitmap = take-at words log bitmapWords size
+module _ (blocks word : ℕ) (words tail : List ℕ) (size : length words ≡ bitmapWords) where
+  pub diskOf-bitmap : diskBitmap (diskOf blocks word words tail) ≡ words
+  diskOf-bitmap = take-at words tail bitmapWords size
 
-  pub diskOf-log : drop logAt (diskOf blocks word words log) ≡ log
-  diskOf-log = drop-at words log bitmapWords size
+  pub diskOf-tail : drop logAt (diskOf blocks word words tail) ≡ tail
+  diskOf-tail = drop-at words tail bitmapWords size
 
-  pub diskOf-entries : logEntries (diskOf blocks word words log) ≡ entriesIn (lengthIn word) log
+  pub diskOf-entries : logEntries (diskOf blocks word words tail) ≡ entriesIn (lengthIn word) tail
   unfolding logEntries
-  diskOf-entries = ap (entriesIn (lengthIn word)) diskOf-log
+  diskOf-entries = ap (entriesIn (lengthIn word)) diskOf-tail
 
-  pub diskOf-durable : durable (diskOf blocks word words log) ≡ writes (entriesIn (lengthIn word) log) words
+  pub diskOf-durable : durable (diskOf blocks word words tail) ≡ writes (entriesIn (lengthIn word) tail) words
   unfolding durable
   diskOf-durable = ap₂ writes diskOf-entries diskOf-bitmap
 
   -- word 1 is 0
-  pub diskOf-quiet : lengthIn word ≡ 0 → durable (diskOf blocks word words log) ≡ words
+  pub diskOf-quiet : lengthIn word ≡ 0 → durable (diskOf blocks word words tail) ≡ words
   unfolding entriesIn writes
-  diskOf-quiet e = diskOf-durable ∙ ap (λ (n : ℕ). writes (entriesIn n log) words) e
+  diskOf-quiet e = diskOf-durable ∙ ap (λ (n : ℕ). writes (entriesIn n tail) words) e
 
-  pub diskOf-length : length log ≡ logWords → length (diskOf blocks word words log) ≡ diskWords
-  diskOf-length m = omega (arith, length-append words log)
+  pub diskOf-length : length tail ≡ tailWords → length (diskOf blocks word words tail) ≡ diskWords
+  diskOf-length m = omega (arith, length-append words tail)
 
 -- a disk is its parts
 pub disk-parts : (disk : List ℕ) → 2 ≤ length disk → disk ≡ diskOf (diskBlocks disk) (wordOne disk) (diskBitmap disk) (drop logAt disk)
@@ -139,43 +154,51 @@ disk-parts (x ∷ y ∷ disk) h = ap {B = List ℕ} (λ r. x ∷ y ∷ r) (sym (
 pub disk-bitmap-length : (disk : List ℕ) → length disk ≡ diskWords → length (diskBitmap disk) ≡ bitmapWords
 disk-bitmap-length disk l = length-take-le bitmapWords (drop bitmapAt disk) (omega (arith, length-drop bitmapAt disk))
 
-pub disk-log-length : (disk : List ℕ) → length disk ≡ diskWords → length (drop logAt disk) ≡ logWords
-disk-log-length disk l = omega (arith, length-drop logAt disk)
+pub disk-tail-length : (disk : List ℕ) → length disk ≡ diskWords → length (drop logAt disk) ≡ tailWords
+disk-tail-length disk l = omega (arith, length-drop logAt disk)
 
-module _ (blocks word : ℕ) (words log : List ℕ) (size : length words ≡ bitmapWords) where
+-- the log has as many entries as word 1 tells
+pub entries-count : (disk : List ℕ) → length disk ≡ diskWords → logLength disk ≤ bitmapWords → length (logEntries disk) ≡ logLength disk
+unfolding logEntries
+entries-count disk l few = length-entriesIn (logLength disk) (drop logAt disk) (omega (arith, disk-tail-length disk l))
+
+module _ (blocks word : ℕ) (words tail : List ℕ) (size : length words ≡ bitmapWords) where
   -- bitmap words stored on a disk
   pub writes-onDisk : (es : List Store)
-      → Places bitmapWords es → writes (map onDisk es) (diskOf blocks word words log) ≡ diskOf blocks word (writes es words) log
+      → Places bitmapWords es → writes (map onDisk es) (diskOf blocks word words tail) ≡ diskOf blocks word (writes es words) tail
   writes-onDisk es places =
-      writes-shift (blocks ∷ word ∷ []) bitmapAt es (words ++ log) refl
-      ∙ ap {B = List ℕ} (λ r. blocks ∷ word ∷ r) (writes-append-left bitmapWords es words log size places)
+      writes-shift (blocks ∷ word ∷ []) bitmapAt es (words ++ tail) refl
+      ∙ ap {B = List ℕ} (λ r. blocks ∷ word ∷ r) (writes-append-left bitmapWords es words tail size places)
 
   -- when a disk that is given by its parts opens
-  pub diskOf-opens : length log ≡ logWords
+  pub diskOf-opens : length tail ≡ tailWords
       → 1 ≤ blocks
       → blocks ≤ maxBlocks
       → noBitsFrom blocks words ≡ true
-      → lengthIn word ≤ wordsFor blocks
-      → entriesValid blocks 0 (entriesIn (lengthIn word) log) ≡ true
-      → openError (diskOf blocks word words log) ≡ none
-  diskOf-opens m some-blocks few-blocks noBits few valid =
+      → wordOneValid blocks word ≡ true
+      → entriesValid blocks 0 (entriesIn (lengthIn word) tail) ≡ true
+      → openError (diskOf blocks word words tail) ≡ none
+  diskOf-opens m some-blocks few-blocks noBits word-one valid =
       parts-open
-      (diskOf blocks word words log)
+      (diskOf blocks word words tail)
       (record {
-        size = diskOf-length blocks word words log size m;
+        size = diskOf-length blocks word words tail size m;
         some-blocks = some-blocks;
         few-blocks = few-blocks;
-        noBits = rw (diskOf-bitmap blocks word words log size) noBits;
-        few-entries = few;
-        entries = rw (diskOf-entries blocks word words log size) valid;
+        noBits = rw (diskOf-bitmap blocks word words tail size) noBits;
+        few-entries = word-few blocks word word-one;
+        word-one = word-one;
+        entries = rw (diskOf-entries blocks word words tail size) valid;
       })
 
-  pub quiet-opens : lengthIn word ≡ 0
-      → length log ≡ logWords
-      → 1 ≤ blocks
-      → blocks ≤ maxBlocks
-      → noBitsFrom blocks words ≡ true
-      → openError (diskOf blocks word words log) ≡ none
-  unfolding entriesIn entriesValid
-  quiet-opens e m some-blocks few-blocks noBits =
-      diskOf-opens m some-blocks few-blocks noBits (omega (arith, e)) (ap (λ (n : ℕ). entriesValid blocks 0 (entriesIn n log)) e)
+-- word 1 at 0
+pub quiet-opens : (blocks : ℕ) (words tail : List ℕ) → length words ≡ bitmapWords
+    → length tail ≡ tailWords
+    → 1 ≤ blocks
+    → blocks ≤ maxBlocks
+    → noBitsFrom blocks words ≡ true
+    → openError (diskOf blocks 0 words tail) ≡ none
+unfolding entriesIn entriesValid
+quiet-opens blocks words tail size m some-blocks few-blocks noBits =
+    diskOf-opens blocks 0 words tail size m some-blocks few-blocks noBits (zero-valid blocks)
+    (ap (λ (n : ℕ). entriesValid blocks 0 (entriesIn n tail)) none-told)

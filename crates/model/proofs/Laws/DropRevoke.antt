@@ -7,7 +7,7 @@ use borrow.Author.Tests.{lt-ltb}
 use Rattle.bitmap.specs.Sizes.{slotCount, slotInRange}
 use Rattle.model.specs.Types.{Error, SlotState, Idle, Open, Precommitted, Nothing, Memory}
 use Rattle.model.specs.First.{first, firstOr, unlessRefused}
-use Rattle.model_types.specs.Answers.{done}
+use Rattle.model_types.specs.Answers.{done, due}
 use Rattle.model_types.specs.Memory.{slotAt, idleSlot, isPrecommitted, withCom}
 use Rattle.model_types.specs.Pending.{isNothing}
 use Rattle.model.specs.Causes.{memoryInvalid, nothingPending, workPending, slotOutOfRange, slotActive, slotInactive, slotPrecommitted, slotNotPrecommitted}
@@ -18,7 +18,7 @@ use Rattle.model.specs.Calls.Drop.{dropError, dropAnswer, dropMemory}
 use Rattle.model.specs.Calls.Revoke.{revokeError, revokeAnswer, revokeMemory}
 use Rattle.model.specs.DropRevoke.{RollsBack, DropEndsOpen, RevokeEndsPrecommitted, DropSparesPrecommitted, RevokeSparesOpen, dropFor, revokeFor, AnswersByState}
 use Rattle.model.proofs.Laws.Fields.{open-state, precommitted-state, active-there, slot-same, slot-other}
-use Rattle.model.proofs.Laws.Answered.{done-answered}
+use Rattle.model.proofs.Laws.Answered.{done-answered, due-answered}
 use Rattle.model.proofs.Laws.Accepted.{RollbackAccepted, drop-accepted, drop-rolls-back, revoke-accepted, revoke-rolls-back}
 use Rattle.model.proofs.Laws.Valid.{valid-parts}
 use Rattle.model.proofs.Laws.Rollback.{rolled-back-bits}
@@ -49,7 +49,7 @@ drop-ends-open memory s e =
 pub revoke-ends-precommitted : RevokeEndsPrecommitted
 unfolding revokeAnswer revokeMemory unlessRefused
 revoke-ends-precommitted memory s e =
-    let accepted : revokeError memory s ≡ none = done-answered _ e in
+    let accepted : revokeError memory s ≡ none = due-answered _ 0 0 e .0 in
     rw accepted
     (record {
       meant = precommitted-state _ (revoke-accepted memory s accepted .precommitted);
@@ -81,7 +81,7 @@ module _ (memory : Memory) (s : ℕ) (is-valid : valid memory ≡ true) (nothing
   drop-by-state Precommitted e = rw (is-valid, nothing, lt-ltb s slotCount below, e)
 
   revoke-by-state : (state : SlotState) → slotAt memory s .state ≡ state → revokeAnswer memory s ≡ revokeFor state
-  unfolding revokeAnswer revokeError done first firstOr memoryInvalid workPending nothingPending isNothing slotOutOfRange slotInRange slotInactive slotActive slotPrecommitted slotNotPrecommitted
+  unfolding revokeAnswer revokeError due first firstOr memoryInvalid workPending nothingPending isNothing slotOutOfRange slotInRange slotInactive slotActive slotPrecommitted slotNotPrecommitted
   revoke-by-state Idle e = rw (is-valid, nothing, lt-ltb s slotCount below, e)
   revoke-by-state Open e = rw (is-valid, nothing, lt-ltb s slotCount below, e)
   revoke-by-state Precommitted e = rw (is-valid, nothing, lt-ltb s slotCount below, e)

@@ -8,13 +8,13 @@ use native.Mathlib.Omega.{arith}
 use lib.ListN.{length, drop}
 use Rattle.bitmap.specs.Sizes.{bitmapWords}
 use Rattle.bitmap.specs.Bits.{noBitsFrom}
-use Rattle.model.specs.Sizes.{logAt, logWords}
+use Rattle.model.specs.Sizes.{logAt, tailWords}
 use Rattle.model.specs.Disk.{diskBlocks, logLength, diskBitmap, logEntries, durable, entriesAgree}
 use Rattle.model.specs.Calls.Opening.{openError}
 use Rattle.model.proofs.Laws.Writes.{length-writes}
 use Rattle.model.proofs.Laws.Places.{Places}
-use Rattle.model.proofs.Laws.Entries.{valid-places, length-entriesIn, entries-agree, writes-noBits}
-use Rattle.model.proofs.Laws.DiskParts.{Opens, opens-parts, disk-bitmap-length, disk-log-length}
+use Rattle.model.proofs.Laws.Entries.{valid-places, entries-agree, writes-noBits}
+use Rattle.model.proofs.Laws.DiskParts.{Opens, opens-parts, disk-bitmap-length, disk-tail-length, entries-count}
 
 module _ (disk : List ℕ) (opens : openError disk ≡ none) where
   parts : Opens disk
@@ -23,15 +23,14 @@ module _ (disk : List ℕ) (opens : openError disk ≡ none) where
   pub bitmap-length : length (diskBitmap disk) ≡ bitmapWords
   bitmap-length = disk-bitmap-length disk (parts .size)
 
-  pub log-length : length (drop logAt disk) ≡ logWords
-  log-length = disk-log-length disk (parts .size)
+  pub tail-length : length (drop logAt disk) ≡ tailWords
+  tail-length = disk-tail-length disk (parts .size)
 
   pub entries-places : Places bitmapWords (logEntries disk)
   entries-places = valid-places (diskBlocks disk) 0 (logEntries disk) (parts .entries) (parts .few-blocks)
 
   pub entries-length : length (logEntries disk) ≡ logLength disk
-  unfolding logEntries
-  entries-length = length-entriesIn (logLength disk) (drop logAt disk) (omega (arith, log-length, parts .few-entries, parts .few-blocks))
+  entries-length = entries-count disk (parts .size) (omega (arith, parts .few-entries, parts .few-blocks))
 
   pub durable-length : length (durable disk) ≡ bitmapWords
   unfolding durable

@@ -2,7 +2,7 @@
 use Prim.Native.Nat.{ℕ, _+_, _-_, _≤_, _<_}
 use native.Mathlib.Nat.{add-zero}
 use native.Mathlib.Omega.{arith}
-use mathlib.Core.Path.{_≡_, sym, ap, _∙_}
+use mathlib.Core.Path.{_≡_, refl, sym, ap, _∙_}
 use mathlib.Core.Logic.{⊎-elim}
 use mathlib.Core.Bool.{true}
 use mathlib.Core.Option.{Option, none}
@@ -18,10 +18,11 @@ use Rattle.model.specs.Types.{Memory, Error, GrantAnswer, NoExtent}
 use Rattle.model_types.specs.Answers.{granted}
 use Rattle.model.specs.First.{unlessRefused}
 use Rattle.model.specs.Causes.{blockOutOfRange, extentStarts, noExtent}
+use Rattle.model.specs.CauseLists.{openCauses, ofSlot}
 use Rattle.model.specs.Calls.Precommit.{precommitError}
 use Rattle.model.specs.Calls.AllocateExtent.{allocateExtentError, nearestExtent, allocateExtentAnswer, allocateExtentList}
 use Rattle.model.specs.Extents.{IsExtent, Nearest, GrantsNearest, ListsAdjoining, ListsExtent, FindsExtent, NoneToFind, GrantsNamed}
-use Rattle.model.proofs.Laws.First.{none-first, first-some, none-append}
+use Rattle.model.proofs.Laws.First.{none-first, none-append, some-after}
 use Rattle.model.proofs.Laws.Answered.{grant-answered, grant-refused}
 use Rattle.model.proofs.Laws.Accepted.{count-some, spared-others, AllocateExtentAccepted, allocate-extent-accepted}
 use Rattle.model.proofs.Laws.FourCounts.{eligible-open, eligible-room}
@@ -161,12 +162,7 @@ grants-named memory s near list b answered available =
 pub none-to-find : NoneToFind
 unfolding allocateExtentAnswer allocateExtentError noExtent
 none-to-find memory s count near list refused c extent =
-    let c1 = first-some _ NoExtent (grant-refused (allocateExtentError memory s count near list) _ NoExtent refused) in
-    let c8 = c1 .1 in
-    let c10 = c8 .1 in
-    let c12 = c10 .1 in
-    let c13 = c12 .1 in
-    let c15 = c13 .1 in
+    let c15 = some-after (ofSlot openCauses memory s) _ NoExtent refl (grant-refused (allocateExtentError memory s count near list) _ NoExtent refused) in
     let c16 = c15 .1 in
     let c18 = c16 .1 in
     let c22 = c18 .1 in

@@ -1,7 +1,7 @@
 -- "Checked in number order": laws of the first cause that holds.
 use mathlib.Core.Path.{_≡_, refl, sym, ap, _∙_}
 use mathlib.Core.Logic.{_⊎_, inl, inr}
-use mathlib.Core.Bool.{Bool, true, false, false≢true}
+use mathlib.Core.Bool.{Bool, true, false, not, _&&_, false≢true}
 use mathlib.Core.Option.{none, some}
 use mathlib.Core.List.{List, [], _∷_, _++_}
 use lib.Dec.{eqb}
@@ -102,3 +102,23 @@ none-append [] ys e = refl
 none-append (x ∷ xs) ys e =
     let n = none-holds (x .holds) (x .error) xs e in
     cause-passed (x .holds) (x .error) (xs ++ ys) (n .0) ∙ none-append xs ys (n .1)
+
+-- whether no cause of a list has this error
+abbrev pub lacks : Error → List Cause → Bool
+lacks error [] = true
+lacks error (cause ∷ causes) = not (eqb (code (cause .error)) (code error)) && lacks error causes
+
+-- an error that none of the first ones has is one of the rest
+skip-lacking : (xs ys : List Cause) (error : Error) → lacks error xs ≡ true → HoldsFirst error (xs ++ ys) → HoldsFirst error ys
+skip-lacking [] ys error e h = h
+skip-lacking (x ∷ xs) ys error e h = go (eqb (code (x .error)) (code error)) e h (skip-lacking xs ys error)
+  where
+    go : (t : Bool) → (not t && lacks error xs) ≡ true
+        → HoldsAt t x (HoldsFirst error (xs ++ ys))
+        → (lacks error xs ≡ true → HoldsFirst error (xs ++ ys) → HoldsFirst error ys)
+        → HoldsFirst error ys
+    go true e h later = absurd (false≢true e)
+    go false e h later = later e (h .1)
+
+pub some-after : (xs ys : List Cause) (error : Error) → lacks error xs ≡ true → first (xs ++ ys) ≡ some error → HoldsFirst error ys
+some-after xs ys error lacking p = skip-lacking xs ys error lacking (first-some (xs ++ ys) error p)

@@ -17,7 +17,8 @@ use Rattle.model.specs.Types.{Bitmap, Slot, Reserve, Memory}
 use Rattle.model_types.specs.Memory.{slotAt, reserveAt, noReserve, noReserves, emptyBitmap, isActive, samBit, tamBit, withCom, withSlot, withReserves}
 use Rattle.model.specs.Available.{available}
 use Rattle.model.specs.Reserves.{totalReserved}
-use Rattle.model.specs.Valid.{sameWords, touched, took, takenBlocks, slotValid}
+use Rattle.model.specs.Touched.{touched, took, takenBlocks}
+use Rattle.model.specs.Valid.{sameWords, slotValid}
 use Rattle.model.proofs.Laws.Fields.{slot-same, slot-other}
 use Rattle.model.proofs.Laws.Writes.{and-second, same-words}
 use Rattle.model.proofs.Laws.Reserves.{total-split}

@@ -13,13 +13,14 @@ use Rattle.model_types.specs.Memory.{reserveAt, noReserve}
 use Rattle.model.specs.Available.{available}
 use Rattle.model.specs.Reserves.{totalReserved, othersReserved}
 use Rattle.model.specs.Valid.{valid}
-use Rattle.model.specs.Causes.{tooFewAvailable, noExtent, reservedForOthers}
+use Rattle.model.specs.Causes.{ofVolume, tooFewAvailable, noExtent, reservedForOthers}
+use Rattle.model.specs.CauseLists.{openCauses, ofSlot}
 use Rattle.model.specs.Calls.Allocate.{allocateError, allocateAnswer}
 use Rattle.model.specs.Calls.AllocateExtent.{allocateExtentError, allocateExtentAnswer}
 use Rattle.model.specs.Calls.CommitCost.{commitCostError, commitCostAnswer}
 use Rattle.model.specs.Calls.Status.{counts}
 use Rattle.model.specs.Reservations.{NeverForOthers, OwnNotForOthers, NoneForOthers, ReservedLast}
-use Rattle.model.proofs.Laws.First.{first-some}
+use Rattle.model.proofs.Laws.First.{some-after}
 use Rattle.model.proofs.Laws.Answered.{due-refused, grant-refused}
 use Rattle.model.proofs.Laws.Reserves.{Spares, total-split}
 use Rattle.model.proofs.Laws.Accepted.{enough-available, extent-found, spared-others}
@@ -35,18 +36,13 @@ module _ (memory : Memory) (s count : ℕ) where
   -- what a refusal by 24 tells: the cause before it doesn't hold, and it does
   record ForOthers (earlier : Bool) : Type 0 where
     pub passed : earlier ≡ false
-    pub holds : reservedForOthers memory s count ≡ true
+    pub holds : ofVolume reservedForOthers memory count (othersReserved (memory .reserves) s) ≡ true
 
   -- `cN` is what is left of a list from cause N on
-  allocate-for-others : (list : List ℕ) → allocateError memory s count list ≡ some ReservedForOthers → ForOthers (tooFewAvailable memory count)
+  allocate-for-others : (list : List ℕ) → allocateError memory s count list ≡ some ReservedForOthers → ForOthers (ofVolume tooFewAvailable memory count)
   unfolding allocateError
   allocate-for-others list e =
-      let c1 = first-some _ ReservedForOthers e in
-      let c8 = c1 .1 in
-      let c10 = c8 .1 in
-      let c12 = c10 .1 in
-      let c13 = c12 .1 in
-      let c15 = c13 .1 in
+      let c15 = some-after (ofSlot openCauses memory s) _ ReservedForOthers refl e in
       let c16 = c15 .1 in
       let c17 = c16 .1 in
       let c24 = c17 .1 in
@@ -56,27 +52,17 @@ module _ (memory : Memory) (s count : ℕ) where
       → ForOthers (noExtent memory count)
   unfolding allocateExtentError
   extent-for-others near list e =
-      let c1 = first-some _ ReservedForOthers e in
-      let c8 = c1 .1 in
-      let c10 = c8 .1 in
-      let c12 = c10 .1 in
-      let c13 = c12 .1 in
-      let c15 = c13 .1 in
+      let c15 = some-after (ofSlot openCauses memory s) _ ReservedForOthers refl e in
       let c16 = c15 .1 in
       let c18 = c16 .1 in
       let c22 = c18 .1 in
       let c24 = c22 .1 in
       record { passed = c22 .0; holds = ⊎-elim (λ h. h) (λ never. absurd never) c24 }
 
-  cost-for-others : commitCostError memory s count ≡ some ReservedForOthers → ForOthers (tooFewAvailable memory count)
+  cost-for-others : commitCostError memory s count ≡ some ReservedForOthers → ForOthers (ofVolume tooFewAvailable memory count)
   unfolding commitCostError
   cost-for-others e =
-      let c1 = first-some _ ReservedForOthers e in
-      let c8 = c1 .1 in
-      let c10 = c8 .1 in
-      let c12 = c10 .1 in
-      let c13 = c12 .1 in
-      let c15 = c13 .1 in
+      let c15 = some-after (ofSlot openCauses memory s) _ ReservedForOthers refl e in
       let c17 = c15 .1 in
       let c24 = c17 .1 in
       record { passed = c17 .0; holds = ⊎-elim (λ h. h) (λ never. absurd never) c24 }
@@ -92,7 +78,7 @@ module _ (memory : Memory) (s count : ℕ) where
         cost = λ refused. never (cost-for-others (due-refused (commitCostError memory s count) _ ReservedForOthers refused) .holds);
       }
     where
-      never : reservedForOthers memory s count ≡ true → ⊥
+      never : ofVolume reservedForOthers memory count (othersReserved (memory .reserves) s) ≡ true → ⊥
       never holds = false≢true (sym (spared-others memory s count spares) ∙ holds)
 
 pub own-not-for-others : OwnNotForOthers

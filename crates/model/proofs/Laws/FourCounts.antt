@@ -5,24 +5,25 @@ use mathlib.Core.Path.{_≡_, refl, ap, sym, _∙_}
 use mathlib.Core.Logic.{⊎-elim}
 use mathlib.Core.Bool.{true, not, false≢true}
 use mathlib.Core.Option.{none, some}
-use mathlib.Core.List.{List, [], _∷_}
+use mathlib.Core.List.{List, [], _∷_, _++_}
 use lib.ListN.{length}
 use borrow.Author.Tests.{le-leb, lt-ltb, le-ltb}
 use Rattle.bitmap.specs.Sizes.{maxCount, countInRange}
 use Rattle.bitmap.proofs.Laws.Count.{allocated-parts, four-kinds}
-use Rattle.model.specs.Types.{Memory, MemoryInvalid, CountRange, ListShort, TooFewAvailable, ReservedForOthers}
+use Rattle.model.specs.Types.{Memory, MemoryInvalid, CountRange, ListShort, TooFewAvailable}
 use Rattle.model_types.specs.Answers.{granted, counted}
 use Rattle.model.specs.First.{Cause, first, firstOr, _⇒_}
 use Rattle.model.specs.Valid.{valid}
 use Rattle.model.specs.Available.{available}
 use Rattle.model.specs.Reserves.{othersReserved}
-use Rattle.model.specs.Causes.{memoryInvalid, countOutOfRange, listShort, tooFewAvailable, reservedForOthers}
+use Rattle.model.specs.Causes.{ofVolume, memoryInvalid, countOutOfRange, listShort, tooFewAvailable, reservedForOthers}
+use Rattle.model.specs.CauseLists.{openCauses, ofSlot, countCauses, enoughCauses}
 use Rattle.model.specs.Calls.Allocate.{allocateError, allocateAnswer}
 use Rattle.model.specs.Calls.Status.{statusError, allocated, counts, statusAnswer}
 use Rattle.model.specs.FourCounts.{StatusAnswersCounts, FourAddUp, AllocatedIsFreeingAndHeld, AvailableIsCompared, Eligible, AvailableCanBeHad}
 use Rattle.model.specs.Calls.Precommit.{precommitError}
 use Rattle.model_types.specs.Memory.{isActive, isPrecommitted}
-use Rattle.model.proofs.Laws.First.{cause-passed, none-first, first-some, none-append}
+use Rattle.model.proofs.Laws.First.{cause-passed, none-first, none-append, some-after}
 use Rattle.model.proofs.Laws.Answered.{grant-refused}
 use Rattle.model.proofs.Laws.Accepted.{accepted-precommit}
 
@@ -39,22 +40,17 @@ unfolding counts allocated
 allocated-is-freeing-and-held memory is-valid = allocated-parts (memory .blocks) (memory .sam .words) (memory .com .words)
 
 pub available-is-compared : AvailableIsCompared
-unfolding counts tooFewAvailable
+unfolding counts tooFewAvailable available
 available-is-compared memory is-valid count = refl
 
 -- ---- an allocate and cause 17
 
 -- refused by 17, there are too few: `cN` is what is left of the list from cause N on
 too-few : (memory : Memory) (s count : ℕ) (list : List ℕ) → allocateError memory s count list ≡ some TooFewAvailable
-    → tooFewAvailable memory count ≡ true
+    → ofVolume tooFewAvailable memory count ≡ true
 unfolding allocateError
 too-few memory s count list e =
-    let c1 = first-some _ TooFewAvailable e in
-    let c8 = c1 .1 in
-    let c10 = c8 .1 in
-    let c12 = c10 .1 in
-    let c13 = c12 .1 in
-    let c15 = c13 .1 in
+    let c15 = some-after (ofSlot openCauses memory s) _ TooFewAvailable refl e in
     let c16 = c15 .1 in
     let c17 = c16 .1 in
     ⊎-elim (λ h. h) (λ c24. absurd (c24 .1)) c17
@@ -71,7 +67,7 @@ module _ (memory : Memory) (s count : ℕ) (list : List ℕ) (is-valid : valid m
       })
 
   -- and neither does 15 or 16
-  pub eligible-room : (more : List Cause) → first (countOutOfRange count ⇒ CountRange ∷ listShort list count ⇒ ListShort ∷ more) ≡ first more
+  pub eligible-room : (more : List Cause) → first (countCauses count list ++ more) ≡ first more
   unfolding countOutOfRange countInRange listShort
   eligible-room more =
       cause-passed (countOutOfRange count) CountRange _ (rw (le-leb 1 count (eligible .some), le-leb count maxCount (eligible .few)))
@@ -79,12 +75,12 @@ module _ (memory : Memory) (s count : ℕ) (list : List ℕ) (is-valid : valid m
 
   -- so 17 decides, and then 24
   decides : allocateError memory s count list
-      ≡ first (tooFewAvailable memory count ⇒ TooFewAvailable ∷ reservedForOthers memory s count ⇒ ReservedForOthers ∷ [])
+      ≡ first (ofVolume enoughCauses memory count (othersReserved (memory .reserves) s))
   unfolding allocateError precommitError
   decides = none-append _ _ eligible-open ∙ eligible-room _
 
 pub available-can-be-had : AvailableCanBeHad
-unfolding counts allocateAnswer tooFewAvailable reservedForOthers granted first firstOr
+unfolding counts allocateAnswer tooFewAvailable reservedForOthers available granted first firstOr
 available-can-be-had memory is-valid =
     record {
       never =

@@ -3,7 +3,7 @@ use Prim.Native.Nat.{ℕ, _+_, _-_, _≤_, _<_, zero-le}
 use native.Mathlib.Numerals.{add-one}
 use native.Mathlib.Omega.{arith}
 use mathlib.Core.Path.{_≡_, refl, sym, ap, ap₂, _∙_}
-use mathlib.Core.Bool.{Bool, true, false, cond, false≢true}
+use mathlib.Core.Bool.{Bool, true, false, cond, true≢false}
 use mathlib.Core.Option.{Option, none, some}
 use mathlib.Core.List.{List, _++_}
 use lib.ListN.{length, getD, take, drop, length-take, List·getD-append}
@@ -16,27 +16,21 @@ use Rattle.bitmap.specs.Round.{roundFrom, wrapped, afterLast}
 use Rattle.bitmap.proofs.Laws.Blocks.{getD-member, member-take, from-append}
 use Rattle.bitmap.proofs.Laws.Round.{member-round, round-member, round-zero, round-same, without, available-without, round-drop, after-met-lt, after-last-at, wrapped-below, wrapped-end}
 use Rattle.bitmap.proofs.Laws.Ahead.{Rises, rises-at, rises-first, round-rises}
-use Rattle.model.specs.Types.{Memory, Error, Pending, Nothing, Commit, Recovery, GrantAnswer}
-use Rattle.model_types.specs.Answers.{granted, grantNumber}
+use Rattle.model.specs.Types.{Memory, Error, GrantAnswer}
+use Rattle.model_types.specs.Answers.{granted}
 use Rattle.model_types.specs.Memory.{zeroMemory}
 use Rattle.model.specs.First.{unlessRefused}
 use Rattle.model.specs.Available.{available}
 use Rattle.model.specs.Commit.{changedOf, committed}
-use Rattle.model.specs.Pending.{storesDone, storesDue, finished}
-use Rattle.model.specs.Rollback.{rolledBack}
 use Rattle.model.specs.Calls.Opening.{openError, opened, openMemory}
-use Rattle.model.specs.Calls.Start.{startError, started, startMemory}
 use Rattle.model.specs.Calls.Allocate.{allocateError, met, firstMet, taking, allocateAnswer, allocateMemory, allocateList}
 use Rattle.model.specs.Calls.AllocateExtent.{allocateExtentError, nearestExtent, allocateExtentAnswer, allocateExtentMemory}
-use Rattle.model.specs.Calls.Deallocate.{deallocateError, freeing, deallocateMemory}
-use Rattle.model.specs.Calls.Precommit.{precommitError, precommitting, precommitMemory}
-use Rattle.model.specs.Calls.Committing.{commitError, committing, commitMemory}
-use Rattle.model.specs.Calls.Drop.{dropError, dropMemory}
-use Rattle.model.specs.Calls.Revoke.{revokeError, revokeMemory}
-use Rattle.model.specs.Calls.Storing.{storeError, advanced, storeMemory}
-use Rattle.model.specs.Reserves.{reserving}
-use Rattle.model.specs.Calls.Reserve.{reserveError, reserveMemory}
-use Rattle.model.specs.Outcome.{openCall, startCall, allocateCall, allocateExtentCall, deallocateCall, precommitCall, commitCall, dropCall, revokeCall, storeCall, statusCall, commitCostCall, reserveCall, crashCall, outcome}
+use Rattle.model.specs.Calls.Committing.{committing}
+use Rattle.model.specs.Outcome.{outcome}
+use Rattle.model.specs.Work.{Work, openWork, crashWork, storeWork, commitWork, changeWork, worked}
+use Rattle.model.proofs.Laws.Work.{Fails, by-failing}
+use Rattle.model.proofs.Laws.Change.{change-frame}
+use Rattle.model.proofs.Laws.Progress.{by-finish, by-store}
 use Rattle.model.specs.NextFit.{AvailableBlock, ahead, ListsMet, ListsFirstMet, AnswersFirstMet, CutRotation, ListsRotation, LowestFromZero, Behind, CursorBehindLast, CursorBehindExtent, CarriesOn, CursorAnew, movesCursor, CursorStays}
 use Rattle.model.proofs.Laws.Answered.{grant-answered}
 use Rattle.model.proofs.Laws.Accepted.{AllocateAccepted, allocate-accepted, allocate-extent-accepted}
@@ -261,42 +255,22 @@ unfolding unlessRefused
 left none new old p e f = e
 left (some error) new old p e f = f
 
--- a grant refused leaves the old one
-refused : (error : Option Error) (n : ℕ) (new old : Memory) → eqb (grantNumber (granted error n)) 0 ≡ false → unlessRefused error new old .cursor ≡ old .cursor
-unfolding granted unlessRefused
-refused none n new old e = absurd (false≢true (sym e))
-refused (some error) n new old e = refl
-
--- the last store of a work
-finished-stays : (memory : Memory) (pending : Pending) → finished memory pending .cursor ≡ memory .cursor
-unfolding finished committed
-finished-stays memory Nothing = refl
-finished-stays memory (Commit s done due) = refl
-finished-stays memory (Recovery done due) = refl
-
 -- both memories that an open can leave have it at 0
 pub cursor-anew : CursorAnew
 unfolding outcome openMemory opened
 cursor-anew memory disk = (left (openError disk) (opened disk) zeroMemory 0 refl refl, refl)
 
--- call by call
+-- work by work
+cursor-worked : (new : Work) (memory : Memory) (disk : List ℕ) → Fails movesCursor new memory → worked new memory disk .cursor ≡ memory .cursor
+unfolding movesCursor worked committing committed
+cursor-worked openWork memory disk e = absurd (true≢false e)
+cursor-worked crashWork memory disk e = absurd (true≢false e)
+cursor-worked storeWork memory disk e =
+    let Same : Memory → Type 0 = λ m. m .cursor ≡ memory .cursor in
+    by-store Same memory (memory .pending) (by-finish Same memory refl refl (memory .pending) (λ _ _ _ _. refl)) refl
+cursor-worked (commitWork s) memory disk e = one-of (eqb (changedOf memory s) 0) _ _ (memory .cursor) refl refl
+cursor-worked (changeWork s change) memory disk e = change-frame memory s change .cursor e
+
 pub cursor-stays : CursorStays
-unfolding movesCursor outcome startMemory started allocateMemory allocateAnswer allocateExtentMemory allocateExtentAnswer deallocateMemory freeing precommitMemory precommitting commitMemory committing committed dropMemory revokeMemory rolledBack storeMemory advanced reserveMemory reserving
-cursor-stays openCall memory disk e = absurd (false≢true (sym e))
-cursor-stays (startCall s) memory disk e = left (startError memory s) _ memory _ refl refl
-cursor-stays (allocateCall s count list) memory disk e = refused (allocateError memory s count list) _ _ memory e
-cursor-stays (allocateExtentCall s count near list) memory disk e = refused (allocateExtentError memory s count near list) _ _ memory e
-cursor-stays (deallocateCall s block) memory disk e = left (deallocateError memory s block) _ memory _ refl refl
-cursor-stays (precommitCall s) memory disk e = left (precommitError memory s) _ memory _ refl refl
-cursor-stays (commitCall s) memory disk e =
-    left (commitError memory s) (committing memory s) memory (memory .cursor) (one-of (eqb (changedOf memory s) 0) _ _ (memory .cursor) refl refl) refl
-cursor-stays (dropCall s) memory disk e = left (dropError memory s) _ memory _ refl refl
-cursor-stays (revokeCall s) memory disk e = left (revokeError memory s) _ memory _ refl refl
-cursor-stays storeCall memory disk e =
-    left (storeError memory disk) (advanced memory (memory .pending)) memory (memory .cursor)
-    (one-of (eqb (storesDone (memory .pending) + 1) (storesDue (memory .pending))) _ _ (memory .cursor) (finished-stays memory (memory .pending)) refl)
-    refl
-cursor-stays statusCall memory disk e = refl
-cursor-stays (commitCostCall s count) memory disk e = refl
-cursor-stays (reserveCall s reservation) memory disk e = left (reserveError memory s reservation) _ memory _ refl refl
-cursor-stays crashCall memory disk e = absurd (false≢true (sym e))
+cursor-stays call memory disk e =
+    by-failing (λ m. m .cursor ≡ memory .cursor) movesCursor (λ new m d f p. cursor-worked new m d f ∙ p) call memory disk e refl

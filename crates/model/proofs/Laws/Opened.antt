@@ -23,7 +23,7 @@ use Rattle.model.proofs.Laws.DiskParts.{Opens, opens-parts, disk-parts,
 use Rattle.model.proofs.Laws.Valid.{ValidParts, idle-valid}
 use Rattle.model.proofs.Laws.Fit.{none-fits}
 use Rattle.model.proofs.Laws.Touches.{one, xor-self}
-use Rattle.model.proofs.Laws.Matching.{quiet-matches, parts-matching}
+use Rattle.model.proofs.Laws.Matching.{rest-matches, recovery-matches, quiet-matches, parts-matching}
 use Rattle.model.proofs.Laws.Pending.{parts-recovery}
 use Rattle.model.proofs.Laws.Durable.{entries-length, durable-length, durable-noBits, durable-agrees}
 
@@ -76,7 +76,7 @@ module _ (disk : List ℕ) (opens : openError disk ≡ none) where
       (record {
         blocks-is = refl;
         due-is = sym due-is;
-        log = log-valid disk (parts .few-entries) (parts .entries);
+        log = log-valid disk (parts .word-one) (parts .entries);
         agrees = durable-agrees disk opens;
         noBits = parts .noBits;
         rest = refl;
@@ -85,14 +85,16 @@ module _ (disk : List ℕ) (opens : openError disk ≡ none) where
   -- ---- just opened
 
   by-log-matches : (p : ℕ) → logLength disk ≡ p → diskMatches (memoryWith (recoveryPending p)) disk (recoveryPending p) ≡ true
-  unfolding recoveryPending recoveryDue diskMatches durable logEntries entriesIn writes
+  unfolding recoveryPending recoveryDue durable logEntries entriesIn writes
   by-log-matches zero e =
-      quiet-matches disk (diskBlocks disk) (durable disk) (drop logAt disk) (durable-length disk opens)
+      rest-matches (memoryWith Nothing) disk
+      ∙ quiet-matches disk (diskBlocks disk) (durable disk) (drop logAt disk) (durable-length disk opens)
       (disk-parts disk (omega (arith, parts .size))
-      ∙ ap (λ (word : ℕ). diskOf (diskBlocks disk) word (diskBitmap disk) (drop logAt disk)) (told-none (wordOne disk) e)
+      ∙ ap (λ (word : ℕ). diskOf (diskBlocks disk) word (diskBitmap disk) (drop logAt disk)) (told-none (diskBlocks disk) (wordOne disk) (parts .word-one) e)
       ∙ ap (λ (words : List ℕ). diskOf (diskBlocks disk) 0 words (drop logAt disk))
       (sym (ap (λ (p : ℕ). writes (entriesIn p (drop logAt disk)) (diskBitmap disk)) e)))
-  by-log-matches (suc p) e = due-matches (suc p + 1) (omega (arith, e))
+  by-log-matches (suc p) e =
+      recovery-matches (memoryWith (Recovery 0 (suc p + 1))) disk 0 (suc p + 1) ∙ due-matches (suc p + 1) (omega (arith, e))
 
   pub opened-matches : diskMatches (opened disk) disk (opened disk .pending) ≡ true
   unfolding opened

@@ -1,15 +1,15 @@
--- Valid pending work, part by part: a commit and its 3·d + 2 stores, a recovery; and with one more store done.
+-- Valid pending work, part by part: a commit and its 3·d + 2 stores, a recovery; of any kind; and with one more store done.
 use Prim.Native.Nat.{ℕ, _+_, _≤_, _<_}
 use native.Mathlib.Omega.{arith}
 use mathlib.Core.Path.{_≡_, refl, sym, ap, _∙_}
-use mathlib.Core.Bool.{Bool, true, false, cond, _&&_}
+use mathlib.Core.Bool.{Bool, true, false, cond, _&&_, true≢false}
 use lib.ListN.{length}
 use lib.Dec.{leb, ltb, eqb}
 use borrow.Author.Tests.{eqb-false, leb-true, ltb-true, eqb-true, le-leb, lt-ltb, eq-eqb, ne-eqb}
 use Rattle.bitmap.specs.Sizes.{slotCount}
 use Rattle.model.specs.Types.{SlotState, Idle, Open, Precommitted, Pending, Nothing, Commit, Recovery, Memory}
 use Rattle.model_types.specs.Memory.{slotAt, isActive, isPrecommitted, withPending, volumeWords}
-use Rattle.model_types.specs.Pending.{storesFor}
+use Rattle.model_types.specs.Pending.{isNothing, storesFor}
 use Rattle.model.specs.Stores.{commitStores}
 use Rattle.model.specs.Commit.{committedSam, entriesOf, changedOf, commitDue}
 use Rattle.model.specs.Pending.{storesDone, storesDue, oneMoreDone}
@@ -108,6 +108,16 @@ module _ (memory : Memory) (done due : ℕ) where
       and-both
       (and-both (and-both (r .quiet) (le-leb 2 due (r .some-logged))) (le-leb due (volumeWords memory + 1) (r .few-logged)))
       (lt-ltb done due (r .not-ended))
+
+-- ---- work of any kind
+
+-- "stores done are fewer than stores due"
+pub unfinished : (memory : Memory) (pending : Pending) → pendingValid memory pending ≡ true → isNothing pending ≡ false
+    → storesDone pending < storesDue pending
+unfolding isNothing storesDone storesDue
+unfinished memory Nothing v n = absurd (true≢false n)
+unfinished memory (Commit s done due) v n = commit-parts memory s done due v .not-ended
+unfinished memory (Recovery done due) v n = recovery-parts memory done due v .not-ended
 
 -- ---- one more store done
 

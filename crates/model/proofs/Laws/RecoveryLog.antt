@@ -5,15 +5,14 @@ use native.Mathlib.Omega.{arith}
 use mathlib.Core.Path.{_≡_, refl, sym, ap, ap₂, _∙_, subst}
 use mathlib.Core.Bool.{true}
 use mathlib.Core.Option.{none}
-use mathlib.Core.List.{List, _++_, map}
+use mathlib.Core.List.{List, [], _++_, map}
 use lib.ListN.{length, take, drop, take-append-drop, length-map, length-drop, drop-of-length-le}
 use lib.Seq.{drop-append-le, take-append-le, drop-append-add, drop-drop}
 use Rattle.bitmap.specs.Sizes.{bitmapWords}
 use Rattle.bitmap.specs.Bits.{noBitsFrom}
 use Rattle.model.specs.Sizes.{logAt, logWords}
 use Rattle.model.specs.Stores.{Store, writes, onDisk, checkpointWith, closingStores}
-use Rattle.model.specs.Valid.{sameWords}
-use Rattle.model.specs.Disk.{diskBlocks, wordOne, logLength, diskBitmap, diskOf, entriesIn, logEntries, entriesValid, entriesAgree, durable, baseImage}
+use Rattle.model.specs.Disk.{diskBlocks, wordOne, logLength, diskBitmap, diskOf, entriesIn, logEntries, entriesValid, entriesAgree, durable, imageMatches}
 use Rattle.model.specs.Calls.Opening.{openError}
 use Rattle.model.proofs.Laws.Writes.{writes-append, writes-again, length-writes}
 use Rattle.model.proofs.Laws.Places.{places-take, places-drop}
@@ -22,7 +21,7 @@ use Rattle.model.proofs.Laws.Entries.{valid-take, valid-drop, writes-no
 use Rattle.model.proofs.Laws.DiskParts.{Opens, opens-parts, diskOf-bitmap, diskOf-entries, diskOf-durable, disk-parts, writes-onDisk, diskOf-opens, log-valid}
 use Rattle.model.proofs.Laws.Closing.{Closing, closing-take, closing-drop, Closed, closed, closed-durable, closed-opens}
 use Rattle.model.proofs.Laws.Matching.{RecoveryMatches, quiet-matches}
-use Rattle.model.proofs.Laws.Durable.{bitmap-length, log-length, entries-places, entries-length}
+use Rattle.model.proofs.Laws.Durable.{bitmap-length, tail-length, entries-places, entries-length}
 
 -- ---- the stores of a checkpoint, one by one
 
@@ -62,20 +61,20 @@ module _ (closing : List Store) (disk : List ℕ) (opens : openError disk ≡ no
   abbrev words : List ℕ
   words = diskBitmap disk
 
-  abbrev log : List ℕ
-  log = drop logAt disk
+  abbrev tail : List ℕ
+  tail = drop logAt disk
 
   size : length words ≡ bitmapWords
   size = bitmap-length disk opens
 
-  whole : disk ≡ diskOf (diskBlocks disk) (wordOne disk) words log
+  whole : disk ≡ diskOf (diskBlocks disk) (wordOne disk) words tail
   whole = disk-parts disk (omega (arith, parts .size))
 
-  entries-there : entriesIn (logLength disk) log ≡ logEntries disk
+  entries-there : entriesIn (logLength disk) tail ≡ logEntries disk
   unfolding logEntries
   entries-there = refl
 
-  valid-there : entriesValid (diskBlocks disk) 0 (entriesIn (logLength disk) log) ≡ true
+  valid-there : entriesValid (diskBlocks disk) 0 (entriesIn (logLength disk) tail) ≡ true
   valid-there = ap (entriesValid (diskBlocks disk) 0) entries-there ∙ parts .entries
 
   -- ---- a logged word is written
@@ -83,10 +82,10 @@ module _ (closing : List Store) (disk : List ℕ) (opens : openError disk ≡ no
     abbrev one : List Store
     one = take 1 (drop k (logEntries disk))
 
-    checkpointed : checkpointNext closing disk k ≡ diskOf (diskBlocks disk) (wordOne disk) (writes one words) log
+    checkpointed : checkpointNext closing disk k ≡ diskOf (diskBlocks disk) (wordOne disk) (writes one words) tail
     checkpointed =
         ap₂ writes (next-word closing (logEntries disk) k (omega (arith, entries-length disk opens))) whole
-        ∙ writes-onDisk (diskBlocks disk) (wordOne disk) words log size one
+        ∙ writes-onDisk (diskBlocks disk) (wordOne disk) words tail size one
         (places-take bitmapWords 1 (drop k (logEntries disk)) (places-drop bitmapWords k (logEntries disk) (entries-places disk opens)))
 
     one-size : length (writes one words) ≡ bitmapWords
@@ -95,19 +94,26 @@ module _ (closing : List Store) (disk : List ℕ) (opens : openError disk ≡ no
     pub checkpointed-opens : openError (checkpointNext closing disk k) ≡ none
     checkpointed-opens =
         ap openError checkpointed
-        ∙ diskOf-opens (diskBlocks disk) (wordOne disk) (writes one words) log one-size (log-length disk opens) (parts .some-blocks) (parts .few-blocks)
+        ∙ diskOf-opens (diskBlocks disk) (wordOne disk) (writes one words) tail one-size (tail-length disk opens) (parts .some-blocks) (parts .few-blocks)
         (writes-noBits-from (diskBlocks disk) 0 one words (parts .noBits)
         (valid-take (diskBlocks disk) 0 1 (drop k (logEntries disk)) (valid-drop (diskBlocks disk) 0 k (logEntries disk) (parts .entries))))
-        (parts .few-entries)
+        (parts .word-one)
         valid-there
 
     pub checkpointed-durable : durable (checkpointNext closing disk k) ≡ durable disk
     unfolding durable
     checkpointed-durable =
         ap durable checkpointed
-        ∙ diskOf-durable (diskBlocks disk) (wordOne disk) (writes one words) log one-size
+        ∙ diskOf-durable (diskBlocks disk) (wordOne disk) (writes one words) tail one-size
         ∙ ap (λ (es : List Store). writes es (writes one words)) entries-there
         ∙ entry-again k (logEntries disk) words
+
+    -- the log stays
+    pub checkpointed-entries : logEntries (checkpointNext closing disk k) ≡ logEntries disk
+    checkpointed-entries =
+        ap logEntries checkpointed
+        ∙ diskOf-entries (diskBlocks disk) (wordOne disk) (writes one words) tail one-size
+        ∙ entries-there
 
     -- the logged words still to be rewritten are one fewer
     one-fewer : writes (drop (k + 1) (logEntries disk)) (writes one words) ≡ writes (drop k (logEntries disk)) words
@@ -122,12 +128,12 @@ module _ (closing : List Store) (disk : List ℕ) (opens : openError disk ≡ no
         record {
           blocks-is = blocks-is;
           due-is = ap (λ (d : List ℕ). logLength d + 1) checkpointed ∙ m .due-is;
-          log = log-valid (checkpointNext closing disk k) (after .few-entries) (after .entries);
-          agrees = ap (entriesAgree sam) entries ∙ m .agrees;
+          log = log-valid (checkpointNext closing disk k) (after .word-one) (after .entries);
+          agrees = ap (entriesAgree sam) checkpointed-entries ∙ m .agrees;
           noBits = ap (λ (n : ℕ). noBitsFrom n (diskBitmap (checkpointNext closing disk k))) (sym blocks-is) ∙ after .noBits;
           rest =
-              ap₂ (λ (es : List Store) (w : List ℕ). writes (drop (k + 1) es) w) entries
-              (ap (λ (d : List ℕ). diskBitmap d) checkpointed ∙ diskOf-bitmap (diskBlocks disk) (wordOne disk) (writes one words) log one-size)
+              ap₂ (λ (es : List Store) (w : List ℕ). writes (drop (k + 1) es) w) checkpointed-entries
+              (ap (λ (d : List ℕ). diskBitmap d) checkpointed ∙ diskOf-bitmap (diskBlocks disk) (wordOne disk) (writes one words) tail one-size)
               ∙ one-fewer
               ∙ m .rest;
         }
@@ -137,12 +143,6 @@ module _ (closing : List Store) (disk : List ℕ) (opens : openError disk ≡ no
 
         blocks-is : diskBlocks (checkpointNext closing disk k) ≡ blocks
         blocks-is = ap (λ (d : List ℕ). diskBlocks d) checkpointed ∙ m .blocks-is
-
-        entries : logEntries (checkpointNext closing disk k) ≡ logEntries disk
-        entries =
-            ap logEntries checkpointed
-            ∙ diskOf-entries (diskBlocks disk) (wordOne disk) (writes one words) log one-size
-            ∙ entries-there
 
   -- ---- a closing store is made
 
@@ -163,11 +163,11 @@ module _ (closing : List Store) (disk : List ℕ) (opens : openError disk ≡ no
       ap (writes (logEntries disk)) is-sam ∙ writes-agreeing (logEntries disk) sam (m .agrees) ∙ sym is-sam
 
   module _ (k : ℕ) (h : logLength disk ≤ k) (c : Closing closing) where
-    closed-next : Closed (diskBlocks disk) (wordOne disk) words log (checkpointNext closing disk k)
+    closed-next : Closed (diskBlocks disk) (wordOne disk) words tail (checkpointNext closing disk k)
     closed-next =
         rw (next-closing closing (logEntries disk) k (omega (arith, entries-length disk opens)))
-        (subst (λ (d : List ℕ). Closed (diskBlocks disk) (wordOne disk) words log (writes next d)) (sym whole)
-        (closed (diskBlocks disk) words size (wordOne disk) log next (closing-take 1 rest (closing-drop made closing c))))
+        (subst (λ (d : List ℕ). Closed (diskBlocks disk) (wordOne disk) words tail (writes next d)) (sym whole)
+        (closed (diskBlocks disk) words size (wordOne disk) tail next (closing-take 1 rest (closing-drop made closing c))))
       where
         -- the closing stores made before
         made : ℕ
@@ -184,23 +184,23 @@ module _ (closing : List Store) (disk : List ℕ) (opens : openError disk ≡ no
 
     pub closing-opens : openError (checkpointNext closing disk k) ≡ none
     closing-opens =
-        closed-opens (diskBlocks disk) words size (wordOne disk) log fits-log (checkpointNext closing disk k) closed-next (log-length disk opens)
-        (parts .some-blocks) (parts .few-blocks) (parts .noBits) (parts .few-entries) valid-there
+        closed-opens (diskBlocks disk) words size (wordOne disk) tail fits-log (checkpointNext closing disk k) closed-next (tail-length disk opens)
+        (parts .some-blocks) (parts .few-blocks) (parts .noBits) (parts .word-one) valid-there
 
     pub closing-durable : durable disk ≡ diskBitmap disk → durable (checkpointNext closing disk k) ≡ diskBitmap disk
     unfolding durable logEntries
     closing-durable written =
-        closed-durable (diskBlocks disk) words size (wordOne disk) log fits-log (checkpointNext closing disk k) closed-next written
+        closed-durable (diskBlocks disk) words size (wordOne disk) tail fits-log (checkpointNext closing disk k) closed-next written
 
 -- ---- a recovery's last store: word 1 becomes 0
 
 pub cleared-matches : (disk : List ℕ) → openError disk ≡ none → (blocks : ℕ) (sam : List ℕ) (k due : ℕ)
     → k ≡ logLength disk
     → RecoveryMatches blocks sam disk k due
-    → sameWords (checkpointNext closingStores disk k) (baseImage blocks sam (checkpointNext closingStores disk k)) ≡ true
+    → imageMatches blocks sam (checkpointNext closingStores disk k) 0 [] ≡ true
 unfolding writes
 cleared-matches disk opens blocks sam k due e m =
-    ap₂ (λ (n : ℕ) (w : List ℕ). sameWords cleared (baseImage n w cleared)) (sym (m .blocks-is))
+    ap₂ (λ (n : ℕ) (w : List ℕ). imageMatches n w cleared 0 []) (sym (m .blocks-is))
     (sym (all-rewritten closingStores disk opens blocks sam k due (omega (arith, e)) m))
     ∙ quiet-matches cleared (diskBlocks disk) (diskBitmap disk) (drop logAt disk) (bitmap-length disk opens) is-cleared
   where

@@ -16,12 +16,13 @@ use Rattle.model.specs.Types.{Error, SlotState, Idle, Open, Precommitted
 use Rattle.model_types.specs.Answers.{done, granted}
 use Rattle.model_types.specs.Memory.{slotAt, reserveAt, noReserve, isActive}
 use Rattle.model_types.specs.Pending.{isNothing}
-use Rattle.model.specs.First.{first, firstOr, _⇒_, unlessRefused}
+use Rattle.model.specs.First.{first, firstOr, unlessRefused}
 use Rattle.model.specs.Available.{available}
-use Rattle.model.specs.Reserves.{othersReserved, drawing, putBack, reserving}
+use Rattle.model.specs.Reserves.{totalReserved, othersReserved, drawing, putBack, reserving}
 use Rattle.model.specs.Rollback.{rolledBack}
 use Rattle.model.specs.Valid.{valid}
-use Rattle.model.specs.Causes.{memoryInvalid, nothingPending, workPending, slotOutOfRange, slotActive, overReserved}
+use Rattle.model.specs.Causes.{ofVolume, memoryInvalid, nothingPending, workPending, slotOutOfRange, slotActive, overReserved}
+use Rattle.model.specs.CauseLists.{roomCauses}
 use Rattle.model.specs.Calls.Start.{startError}
 use Rattle.model.specs.Calls.Allocate.{allocateError, firstMet, taking, allocateAnswer, allocateMemory}
 use Rattle.model.specs.Calls.AllocateExtent.{allocateExtentError, allocateExtentAnswer, allocateExtentMemory}
@@ -86,8 +87,8 @@ may-always-allocate memory is-valid s count list asks =
 
 -- what 23 compares
 over-reserved : (memory : Memory) (s reservation : ℕ) → s < length (memory .reserves)
-    → overReserved memory s reservation ≡ ltb (length (available memory)) (reservation + othersReserved (memory .reserves) s)
-unfolding overReserved reserving
+    → ofVolume overReserved memory (totalReserved (reserving memory s reservation .reserves)) ≡ ltb (length (available memory)) (reservation + othersReserved (memory .reserves) s)
+unfolding overReserved available reserving
 over-reserved memory s reservation there = ap (ltb (length (available memory))) (total-set (memory .reserves) s _ there)
 
 module _ (memory : Memory) (is-valid : valid memory ≡ true) (s reservation : ℕ) (nothing : memory .pending ≡ Nothing) (below : s < slotCount) where
@@ -98,7 +99,7 @@ module _ (memory : Memory) (is-valid : valid memory ≡ true) (s reservation : �
   start-by-state Open e = rw (is-valid, nothing, lt-ltb s slotCount below, e)
   start-by-state Precommitted e = rw (is-valid, nothing, lt-ltb s slotCount below, e)
 
-  idle-decides : slotAt memory s .state ≡ Idle → reserveError memory s reservation ≡ first (overReserved memory s reservation ⇒ OverReserved ∷ [])
+  idle-decides : slotAt memory s .state ≡ Idle → reserveError memory s reservation ≡ first (ofVolume roomCauses memory (totalReserved (reserving memory s reservation .reserves)))
   unfolding reserveError startError
   idle-decides idle = none-append _ _ (start-by-state Idle idle)
 
@@ -117,12 +118,12 @@ reserve-answers memory is-valid s reservation nothing below there =
       fits = λ idle few.
           ap done
           (idle-decides memory is-valid s reservation nothing below idle
-          ∙ cause-passed (overReserved memory s reservation) OverReserved [] (compares ∙ le-ltb _ _ few)
+          ∙ cause-passed _ OverReserved [] (compares ∙ le-ltb _ _ few)
           ∙ no-cause);
       exceeds = λ idle many.
           ap done
           (idle-decides memory is-valid s reservation nothing below idle
-          ∙ cause-holds (overReserved memory s reservation) OverReserved [] (compares ∙ lt-ltb _ _ many));
+          ∙ cause-holds _ OverReserved [] (compares ∙ lt-ltb _ _ many));
     }
 
 pub reserve-sets : ReserveSets

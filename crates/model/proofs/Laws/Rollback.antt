@@ -15,7 +15,7 @@ use Rattle.bitmap.proofs.Laws.Majority.{rollback-untouched, rollback-touched}
 use Rattle.model.specs.Types.{Nothing, Reserve, Memory}
 use Rattle.model_types.specs.Memory.{slotAt, reserveAt, noReserve, idleSlot, isActive, samBit, comBit, tamBit}
 use Rattle.model.specs.Reserves.{putBack}
-use Rattle.model.specs.Valid.{touched, took}
+use Rattle.model.specs.Touched.{touched, took}
 use Rattle.model.specs.Rollback.{rolledBackCom, rolledBack}
 use Rattle.model.proofs.Laws.Valid.{ReservesFit, ValidParts, touchesBlock, idle-valid}
 use Rattle.model.proofs.Laws.Reserves.{total-split, total-set-le, drawn-set-le}

@@ -20,7 +20,7 @@ use Rattle.bitmap.proofs.Laws.Round.{member-round, round-length, after-last-lt,
 use Rattle.model.specs.Types.{Bitmap, Nothing, Slot, Reserve, Memory}
 use Rattle.model_types.specs.Memory.{slotAt, reserveAt, noReserve, withTam, isActive, samBit, comBit, tamBit, withCom, volumeBitmap}
 use Rattle.model.specs.Reserves.{drawing}
-use Rattle.model.specs.Valid.{touched, took, takenBlocks}
+use Rattle.model.specs.Touched.{touched, took, takenBlocks}
 use Rattle.model.specs.Available.{available}
 use Rattle.model.specs.Calls.Allocate.{met, firstMet, taking}
 use Rattle.model.specs.Calls.Deallocate.{freeing}

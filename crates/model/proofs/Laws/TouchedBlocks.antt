@@ -1,18 +1,18 @@
--- The blocks that a slot has touched: a commit changes no more words than there are, and no more than W.
+-- The blocks that a slot has touched: a commit changes no more words than there are, and no more than W, and some word where there are any.
 use Prim.Native.Nat.{ℕ, zero, suc, _+_, _*_, _≤_, _<_}
 use native.Mathlib.Nat.{not-suc-le-zero, eq-or-lt-of-le, le-of-suc-le-suc, le-step, le-refl}
 use native.Mathlib.Omega.{arith}
 use mathlib.Core.Path.{_≡_, refl, sym, ap, ap₂, _∙_}
 use mathlib.Core.Logic.{_⊎_, inl, inr, ⊎-elim}
-use mathlib.Core.Bool.{Bool, true, false, cond, xor}
+use mathlib.Core.Bool.{Bool, true, false, not, cond, xor}
 use mathlib.Core.List.{List, _∷_}
 use lib.ListN.{length, getD, drop, drop-of-length-le}
 use lib.Seq.{drop-cons}
-use lib.Dec.{eqb}
-use borrow.Author.Tests.{eqb-false}
+use lib.Dec.{leb, eqb}
+use borrow.Author.Tests.{eqb-true, eqb-false, eq-eqb, ne-eqb, le-leb}
 use Rattle.bitmap.specs.Sizes.{maxBlocks, bitmapWords}
 use Rattle.bitmap.specs.Bits.{bit, IsBitmap}
-use Rattle.bitmap.specs.Blocks.{from}
+use Rattle.bitmap.specs.Blocks.{scan, from}
 use Rattle.bitmap.proofs.Laws.Bits.{word-of-bits, bitmapOf-is, noBits-bit, noBits-bitmapOf}
 use Rattle.bitmap.proofs.Laws.Blocks.{from-same}
 use Rattle.bitmap.proofs.Laws.Count.{count-later, count-here, count-past}
@@ -20,11 +20,12 @@ use Rattle.model.specs.Types.{Memory}
 use Rattle.model_types.specs.Memory.{slotAt, isActive, samBit, volumeWords}
 use Rattle.model.specs.Stores.{Store, _≔_, changesFrom, changes}
 use Rattle.model.specs.Commit.{committedSam, entriesOf, changedOf}
-use Rattle.model.specs.Valid.{touched}
-use Rattle.model.specs.Calls.CommitCost.{touchedBlocks}
+use Rattle.model.specs.Touched.{touched, touchedBlocks, touchedSome}
+use Rattle.model.proofs.Laws.Writes.{no-changes}
 use Rattle.model.proofs.Laws.Changes.{changes-count}
 use Rattle.model.proofs.Laws.Valid.{ValidParts}
 use Rattle.model.proofs.Laws.Commit.{same-or-not, committed-bits}
+use Rattle.model.proofs.Laws.Touches.{xor-self}
 
 -- ---- words and blocks that differ
 
@@ -79,6 +80,18 @@ module _ (old new : List ℕ) (isOld : IsBitmap old) (isNew : IsBitmap new) wher
 
 -- ---- a commit
 
+-- a number is at least 1 where another is, if it isn't less and is 0 where that is
+some-both : (n m : ℕ) → (m ≡ 0 → n ≡ 0) → m ≤ n → not (eqb n 0) ≡ leb 1 m
+some-both n m none few = go (eqb m 0) refl
+  where
+    go : (t : Bool) → eqb m 0 ≡ t → not (eqb n 0) ≡ leb 1 m
+    go true e =
+        let z = eqb-true m 0 e in
+        rw (eq-eqb n 0 (none z), z)
+    go false e =
+        let some : 1 ≤ m = omega (arith, eqb-false m 0 e) in
+        rw (ne-eqb n 0 (λ z. omega (arith, z, some, few)), le-leb 1 m some)
+
 module _ (memory : Memory) (s : ℕ) (parts : ValidParts memory) (active : isActive (slotAt memory s .state) ≡ true) where
   -- it changes no more words than the slot has touched blocks
   pub changed-touched : IsBitmap (memory .sam .words) → changedOf memory s ≤ length (touchedBlocks memory s)
@@ -106,3 +119,21 @@ module _ (memory : Memory) (s : ℕ) (parts : ValidParts memory) (active : isAct
   unfolding changedOf entriesOf committedSam
   changed-words =
       changes-count (memory .blocks) (memory .sam .words) (committedSam memory s .words) (parts .sam-below) (noBits-bitmapOf (memory .blocks) _)
+
+  -- where it changes none, the slot has touched no block
+  none-touched : IsBitmap (memory .sam .words) → changedOf memory s ≡ 0 → length (touchedBlocks memory s) ≡ 0
+  unfolding changedOf entriesOf touchedBlocks touched committedSam from scan
+  none-touched is none = count-past (touched memory (slotAt memory s)) 0 (memory .blocks) (omega arith) (λ b _. untouched b)
+    where
+      same : memory .sam .words ≡ committedSam memory s .words
+      same = no-changes (memory .sam .words) (committedSam memory s .words) (is .size ∙ sym (bitmapOf-is (memory .blocks) _ .size)) none
+
+      untouched : (b : ℕ) → touched memory (slotAt memory s) b ≡ false
+      untouched b =
+          ap (λ (t : Bool). xor t (samBit memory b)) (sym (committed-bits memory parts s active b) ∙ ap (λ (words : List ℕ). bit words b) (sym same))
+          ∙ xor-self (samBit memory b)
+
+  -- so the slot has touched something just where d is at least 1
+  pub touched-some : IsBitmap (memory .sam .words) → touchedSome memory s ≡ leb 1 (changedOf memory s)
+  unfolding touchedSome
+  touched-some is = some-both (length (touchedBlocks memory s)) (changedOf memory s) (none-touched is) (changed-touched is)

@@ -14,7 +14,7 @@ use Rattle.bitmap.proofs.Laws.Blocks.{from-same}
 use Rattle.bitmap.proofs.Laws.Count.{count-more}
 use Rattle.model.specs.Types.{Bitmap, Slot, Reserve, Pending, Memory}
 use Rattle.model_types.specs.Memory.{slotAt, idleSlot, isActive, samBit, tamBit, withCursor, withCom, withSlot, withReserves, withPending}
-use Rattle.model.specs.Valid.{touched}
+use Rattle.model.specs.Touched.{touched, touchedBlocks}
 use Rattle.model.specs.Reserves.{reserving}
 use Rattle.model.specs.Commit.{committed}
 use Rattle.model.specs.Calls.Start.{started}
@@ -22,7 +22,6 @@ use Rattle.model.specs.Calls.Allocate.{taking}
 use Rattle.model.specs.Calls.Deallocate.{freeing}
 use Rattle.model.specs.Calls.Precommit.{precommitting}
 use Rattle.model.specs.Rollback.{rolledBack}
-use Rattle.model.specs.Calls.CommitCost.{touchedBlocks}
 use Rattle.model.proofs.Laws.Fields.{slot-same, slot-other}
 use Rattle.model.proofs.Laws.Valid.{ValidParts, touchesBlock}
 use Rattle.model.proofs.Laws.Touches.{xor-self}
@@ -109,32 +108,36 @@ unfolding touchedBy touched
 aside-touches memory other s more cursor reserves t = record { few = t .few; volume = t .volume }
 
 -- no more is no more, for one slot or another
-none-more : {memory other : Memory} {s : ℕ} (t : Bool) → Touches memory other s (cond t 0 0) → Touches memory other s 0
+pub none-more : {memory other : Memory} {s : ℕ} (t : Bool) → Touches memory other s (cond t 0 0) → Touches memory other s 0
 none-more true k = k
 none-more false k = k
+
+no-more : {memory other : Memory} {s : ℕ} (t : Bool) → Touches memory other s 0 → Touches memory other s (cond t 0 0)
+no-more true k = k
+no-more false k = k
 
 -- ---- the calls of slot s, for any slot t
 
 module _ (memory : Memory) (s t : ℕ) (there : s < length (memory .slots)) where
-  pub started-touches : Touches memory (started memory s) t 0
+  -- none at all, for this slot or another
+  abbrev NoneMore : Memory → Type 0
+  NoneMore other = Touches memory other t (cond (eqb s t) 0 0)
+
+  pub started-touches : NoneMore (started memory s)
   unfolding started touched
-  started-touches =
-      none-more (eqb s t)
-      (either-slot memory s _ (memory .com) there t [] (λ b h. rw (xor-self (samBit memory b)) (omega arith)))
+  started-touches = either-slot memory s _ (memory .com) there t [] (λ b h. rw (xor-self (samBit memory b)) (omega arith))
 
-  pub rolled-back-touches : Touches memory (rolledBack memory s) t 0
+  pub rolled-back-touches : NoneMore (rolledBack memory s)
   unfolding rolledBack
-  rolled-back-touches =
-      aside-touches memory _ t 0 (memory .cursor) _ (none-more (eqb s t) (either-slot memory s idleSlot _ there t [] (λ b h. omega arith)))
+  rolled-back-touches = aside-touches memory _ t _ (memory .cursor) _ (either-slot memory s idleSlot _ there t [] (λ b h. omega arith))
 
-  pub reserving-touches : (reservation : ℕ) → Touches memory (reserving memory s reservation) t 0
+  pub reserving-touches : (reservation : ℕ) → NoneMore (reserving memory s reservation)
   unfolding reserving
-  reserving-touches reservation =
-      aside-touches memory memory t 0 (memory .cursor) _ (record { few = omega arith; volume = refl })
+  reserving-touches reservation = aside-touches memory memory t _ (memory .cursor) _ (no-more (eqb s t) (record { few = omega arith; volume = refl }))
 
-  pub precommitting-touches : isActive (slotAt memory s .state) ≡ true → Touches memory (precommitting memory s) t 0
+  pub precommitting-touches : isActive (slotAt memory s .state) ≡ true → NoneMore (precommitting memory s)
   unfolding precommitting touched
-  precommitting-touches active = none-more (eqb s t) (either-slot memory s _ (memory .com) there t [] (λ b h. rw active (omega arith)))
+  precommitting-touches active = either-slot memory s _ (memory .com) there t [] (λ b h. rw active (omega arith))
 
   module _ (parts : ValidParts memory) where
     pub taking-touches : (blocks : List ℕ) → Touches memory (taking memory s blocks) t (cond (eqb s t) (length blocks) 0)

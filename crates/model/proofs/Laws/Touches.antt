@@ -11,7 +11,8 @@ use Rattle.bitmap.proofs.Laws.Blocks.{allBelow-all}
 use Rattle.model.specs.Types.{Bitmap, Slot, Reserve, Pending, Nothing, Memory}
 use Rattle.model_types.specs.Memory.{slotAt, idleSlot, isActive, samBit, comBit, emptyBitmap, withCursor, withCom, withSlot, withReserves, withPending}
 use Rattle.model.specs.Available.{available}
-use Rattle.model.specs.Valid.{touched, took, takenBlocks, sameWords, allSlots, slotValid, touches, touchesAgree, pendingValid}
+use Rattle.model.specs.Touched.{touched, took, takenBlocks}
+use Rattle.model.specs.Valid.{sameWords, allSlots, slotValid, touches, touchesAgree, pendingValid}
 use Rattle.model.proofs.Laws.Fields.{slots-length, slot-same, slot-other}
 use Rattle.model.proofs.Laws.Writes.{and-both, and-first, and-second}
 use Rattle.model.proofs.Laws.Valid.{ReservesFit, ValidParts, touchesBlock, touches-at}

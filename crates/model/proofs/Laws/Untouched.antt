@@ -12,7 +12,7 @@ use Rattle.model.specs.Types.{Open, Precommitted, Slot, Reserve, Nothing
 use Rattle.model_types.specs.Memory.{slotAt, reserveAt, noReserve, reserveOf, withReserves, withState, withTam, isActive, samBit}
 use Rattle.model.specs.Available.{available}
 use Rattle.model.specs.Reserves.{totalReserved, reserving}
-use Rattle.model.specs.Valid.{touched, took, takenBlocks}
+use Rattle.model.specs.Touched.{touched, took, takenBlocks}
 use Rattle.model.specs.Calls.Start.{started}
 use Rattle.model.specs.Calls.Precommit.{precommitting}
 use Rattle.model.proofs.Laws.Valid.{ReservesFit, ValidParts, slot-below}

@@ -16,7 +16,8 @@ use Rattle.model.specs.Types.{Slot, Memory}
 use Rattle.model_types.specs.Memory.{slotAt, reserveAt, idleSlot, isActive, samBit, comBit}
 use Rattle.model.specs.Available.{available}
 use Rattle.model.specs.Reserves.{totalReserved}
-use Rattle.model.specs.Valid.{touched, allSlots, slotValid, touches, touchesAgree, takenBlocks, reservationsFit, drawnFit, pendingValid, valid}
+use Rattle.model.specs.Touched.{touched, takenBlocks}
+use Rattle.model.specs.Valid.{allSlots, slotValid, touches, touchesAgree, reservationsFit, drawnFit, pendingValid, valid}
 use Rattle.model.proofs.Laws.Writes.{and-both, and-first, and-second, words-same}
 use Rattle.model.proofs.Laws.DiskParts.{blocks-inRange, inRange-low, inRange-high}
 

@@ -121,3 +121,12 @@ writes-changesFrom front k (x ∷ old) (y ∷ new) f p = go (eqb x y) refl (writ
 
 pub writes-changes : (old new : List ℕ) → length old ≡ length new → writes (changes old new) old ≡ new
 writes-changes old new p = writes-changesFrom [] 0 old new refl p
+
+-- where no word changes, the two are one
+pub no-changes : (old new : List ℕ) → length old ≡ length new → length (changes old new) ≡ 0 → old ≡ new
+unfolding writes
+no-changes old new p none = go (changes old new) none (writes-changes old new p)
+  where
+    go : (es : List Store) → length es ≡ 0 → writes es old ≡ new → old ≡ new
+    go [] z made = made
+    go (e ∷ es) z made = absurd (suc-ne-zero (length es) z)

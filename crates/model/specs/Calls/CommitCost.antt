@@ -4,36 +4,24 @@
 use Prim.Native.Nat.{ℕ, _+_, min}
 use mathlib.Core.Bool.{cond}
 use mathlib.Core.Option.{Option}
-use mathlib.Core.List.{List, [], _∷_}
+use mathlib.Core.List.{_++_}
 use lib.ListN.{length}
 use lib.Dec.{eqb}
-use Rattle.bitmap.specs.Blocks.{from}
-use Rattle.model.specs.Types.{Error, StoresAnswer, Memory, MemoryInvalid, WorkPending, SlotRange, SlotIdle, SlotPrecommitted, CountRange, TooFewAvailable, ReservedForOthers}
-use Rattle.model.specs.First.{first, _⇒_}
+use Rattle.model.specs.Types.{Error, StoresAnswer, Memory}
+use Rattle.model.specs.First.{first}
 use Rattle.model_types.specs.Answers.{due}
-use Rattle.model_types.specs.Memory.{slotAt, volumeWords}
+use Rattle.model_types.specs.Memory.{volumeWords}
 use Rattle.model_types.specs.Pending.{storesFor}
-use Rattle.model.specs.Valid.{touched}
-use Rattle.model.specs.Causes.{memoryInvalid, workPending, slotOutOfRange, slotInactive, slotPrecommitted, countTooLarge, tooFewAvailable, reservedForOthers}
+use Rattle.model.specs.Touched.{touchedBlocks}
+use Rattle.model.specs.Reserves.{othersReserved}
+use Rattle.model.specs.Causes.{ofVolume}
+use Rattle.model.specs.CauseLists.{openCauses, ofSlot, costCauses}
 
 -- "Causes as for allocate, but a count of 0 passes and no list is lent." Job 7: 24 "last, for runs and Job 2's
--- foretelling too"
+-- foretelling too". So 1, 8, 10, 12, 13; 15, 17, 24
 unfoldable pub commitCostError : Memory → ℕ → ℕ → Option Error
 commitCostError memory s count =
-    first
-    (memoryInvalid memory ⇒ MemoryInvalid
-    ∷ workPending memory ⇒ WorkPending
-    ∷ slotOutOfRange s ⇒ SlotRange
-    ∷ slotInactive memory s ⇒ SlotIdle
-    ∷ slotPrecommitted memory s ⇒ SlotPrecommitted
-    ∷ countTooLarge count ⇒ CountRange
-    ∷ tooFewAvailable memory count ⇒ TooFewAvailable
-    ∷ reservedForOthers memory s count ⇒ ReservedForOthers
-    ∷ [])
-
--- the blocks that slot s has touched so far, lowest first; t is their number
-unfoldable pub touchedBlocks : Memory → ℕ → List ℕ
-touchedBlocks memory s = from (touched memory (slotAt memory s)) (memory .blocks) 0
+    first (ofSlot openCauses memory s ++ ofVolume costCauses memory count (othersReserved (memory .reserves) s))
 
 -- the most stores of a commit, in a volume of so many words, that touched so many blocks
 unfoldable pub costFor : ℕ → ℕ → ℕ

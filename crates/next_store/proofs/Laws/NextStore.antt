@@ -13,7 +13,8 @@ use Rattle.model.specs.Stores.{Store, _≔_, writes, logStores, onDisk, checkpo
 use Rattle.model.specs.Disk.{logLength, logEntries}
 use Rattle.model.proofs.Laws.StoreLists.{length-logStores}
 use Rattle.disk_log.specs.Given.{Logged}
-use Rattle.disk_log.proofs.Laws.Log.{entry-at, entries-count}
+use Rattle.model.proofs.Laws.DiskParts.{entries-count}
+use Rattle.disk_log.proofs.Laws.Log.{entry-at}
 use Rattle.disk_log.proofs.Laws.Given.{logged-few, logged-below}
 use Rattle.next_store.specs.Next.{IsNext}
 

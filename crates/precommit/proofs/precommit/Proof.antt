@@ -3,9 +3,11 @@ use mathlib.Core.List.{List}
 use lib.ListN.{set}
 use mathlib.Core.Path.{_≡_, ap, ap₂, _∙_}
 use mathlib.Core.Logic.{⊎-elim}
+use mathlib.Core.Option.{Option}
+use Rattle.model_types.specs.declared.error.Error.{Error}
 use Rattle.model_types.specs.declared.memory.SlotState.the-variants.{Precommitted}
 use Rattle.model_types.specs.declared.memory.Slot.{Slot}
-use Rattle.model_types.specs.Answers.{done}
+use Rattle.model_types.specs.Answers.{due}
 use Rattle.model_types.specs.Memory.{withSlots, withState}
 use Rattle.model.specs.Calls.Precommit.{precommitError, precommitting, precommitAnswer, precommitMemory}
 use Rattle.model_types.proofs.Laws.Shape.{Shaped, shaped}
@@ -62,8 +64,8 @@ array-copy-out-own c = search needs
 open-requires : tie.Need-open-requires
 open-requires c κs = search needs
 
-answer-requires : tie.Need-answer-requires
-answer-requires c κs = search needs
+stores-requires : tie.Need-stores-requires
+stores-requires c κs = search needs
 
 is-accepted-requires : tie.Need-is-accepted-requires
 is-accepted-requires c κs = search needs
@@ -84,7 +86,7 @@ returns c =
     let error = precommitError (a .memory) (a .slot) in
     let test = c .before .is-accepted .ensures in
     let looked = c .before .before .before .before .before .slot-index .ensures in (
-      c .before .before .answer .ensures ∙ ap done (error-of error (verdict-is c)),
+      c .before .before .stores .ensures ∙ ap (λ (e : Option Error). due e 0) (error-of error (verdict-is c)),
       ⊎-elim
           (λ w.
           let below = precommit-accepted (a .memory) (a .slot) (accepted-none error (verdict-is c) test (w .0 .taken)) .ready .below in
@@ -108,7 +110,7 @@ precommit-spec =
     mul-own
     array-copy-out-own
     open-requires
-    answer-requires
+    stores-requires
     is-accepted-requires
     new-requires
     mul-slots

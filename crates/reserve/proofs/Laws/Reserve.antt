@@ -4,18 +4,12 @@ use native.Mathlib.Nat.{add-comm}
 use native.Mathlib.Omega.{arith}
 use mathlib.Core.Path.{_≡_, sym, ap, _∙_}
 use mathlib.Core.Option.{none}
-use mathlib.Core.List.{[], _∷_}
-use lib.ListN.{length}
-use lib.Dec.{ltb}
 use Rattle.bitmap.specs.Sizes.{slotCount}
-use Rattle.bitmap.specs.Blocks.{availableBlocks}
-use Rattle.model_types.specs.declared.error.Error.the-variants.{OverReserved}
 use Rattle.model_types.specs.declared.memory.Memory.{Memory}
 use Rattle.model_types.specs.Memory.{reserveAt, reserveOf}
-use Rattle.model.specs.First.{_⇒_}
-use Rattle.model.specs.Available.{available}
 use Rattle.model.specs.Reserves.{totalReserved, othersReserved, reserving}
-use Rattle.model.specs.Causes.{overReserved}
+use Rattle.model.specs.Causes.{ofVolume}
+use Rattle.model.specs.CauseLists.{idleCauses, ofSlot, roomCauses}
 use Rattle.model.specs.Calls.Start.{startError}
 use Rattle.model.specs.Calls.Reserve.{reserveError}
 use Rattle.model_types.proofs.Laws.Shape.{Shaped}
@@ -23,8 +17,7 @@ use Rattle.model.proofs.Laws.Reserves.{total-set}
 use Rattle.model.proofs.Laws.Accepted.{start-accepted}
 use Rattle.verdicts.specs.declared.verdict.Verdict.{Verdict}
 use Rattle.verdicts.specs.Verdicts.{verdict, thenCauses}
-use Rattle.verdicts.proofs.Laws.Verdicts.{then-causes, then-same}
-use Rattle.reserve.specs.Causes.{roomCauses}
+use Rattle.verdicts.proofs.Laws.Verdicts.{then-read}
 
 module _ (memory : Memory) (s reservation : ℕ) (shape : Shaped memory) where
   -- what all would add up to
@@ -36,16 +29,11 @@ module _ (memory : Memory) (s reservation : ℕ) (shape : Shaped memory) where
 
   -- its own cause after those of an idle slot, which are start's
   pub reserve-verdict : {v earlier : Verdict} (reserved : ℕ)
-      → v ≡ thenCauses earlier (roomCauses (memory .blocks) (memory .sam .words) (memory .com .words) reserved reservation)
+      → v ≡ thenCauses earlier (ofVolume roomCauses memory (reserved + reservation))
       → earlier ≡ verdict (startError memory s)
       → (startError memory s ≡ none → reserved ≡ othersReserved (memory .reserves) s)
       → v ≡ verdict (reserveError memory s reservation)
-  unfolding startError reserveError overReserved available
+  unfolding startError reserveError
   reserve-verdict reserved e f g =
-      e
-      ∙ rw f
-      (then-same (startError memory s) _ _
-      (λ passed.
-      ap (λ (sum : ℕ). ltb (length (availableBlocks (memory .blocks) (memory .sam .words) (memory .com .words))) sum ⇒ OverReserved ∷ [])
-      (ap (λ (n : ℕ). n + reservation) (g passed) ∙ total-then (start-accepted memory s passed .ready .below)))
-      ∙ then-causes _ _)
+      then-read (ofSlot idleCauses memory s) (ofVolume roomCauses memory) e f
+      (λ passed. ap (λ (n : ℕ). n + reservation) (g passed) ∙ total-then (start-accepted memory s passed .ready .below))

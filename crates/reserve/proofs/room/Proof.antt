@@ -4,6 +4,7 @@ use native.Mathlib.Omega.{arith}
 use mathlib.Core.Path.{sym, ap, _∙_}
 use lib.Dec.{ltb}
 use borrow.Author.Tests.{not-true, not-false}
+use Rattle.model.specs.Causes.{overReserved}
 use Rattle.verdicts.proofs.Laws.Verdicts.{none-tested, then-tested, then-refused, then-accepted}
 use borrow.Author.Needs.{needs}
 use Rattle.reserve.proofs.room.Statement.{statement}
@@ -30,6 +31,7 @@ unless-requires : tie.Need-unless-requires
 unless-requires c κs = search needs
 
 returns-2 : tie.Need-returns-2
+unfolding overReserved
 returns-2 c =
     let available = c .before .count-available in
     let past = c .before .before in

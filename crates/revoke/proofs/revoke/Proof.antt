@@ -2,9 +2,11 @@
 use lib.ListN.{getD}
 use mathlib.Core.Path.{_≡_, ap, _∙_}
 use mathlib.Core.Logic.{⊎-elim}
+use mathlib.Core.Option.{Option}
 use Rattle.bitmap.specs.Bits.{IsBitmap}
+use Rattle.model_types.specs.declared.error.Error.{Error}
 use Rattle.model_types.specs.declared.memory.Slot.{Slot}
-use Rattle.model_types.specs.Answers.{done}
+use Rattle.model_types.specs.Answers.{due}
 use Rattle.model.specs.Rollback.{rolledBack}
 use Rattle.model.specs.Calls.Revoke.{revokeError, revokeAnswer, revokeMemory}
 use Rattle.model_types.proofs.Laws.Shape.{Shaped, shaped}
@@ -68,8 +70,8 @@ array-copy-out-own c = search needs
 precommitted-requires : tie.Need-precommitted-requires
 precommitted-requires c κs = search needs
 
-answer-requires : tie.Need-answer-requires
-answer-requires c κs = search needs
+stores-requires : tie.Need-stores-requires
+stores-requires c κs = search needs
 
 is-accepted-requires : tie.Need-is-accepted-requires
 is-accepted-requires c κs = search needs
@@ -105,7 +107,7 @@ returns c =
     let error = revokeError (a .memory) (a .slot) in
     let test = tested .is-accepted .ensures in
     let looked = tested .before .before .before .before .slot-index .ensures in (
-      tested .before .answer .ensures ∙ ap done (error-of error (verdict-is tested)),
+      tested .before .stores .ensures ∙ ap (λ (e : Option Error). due e 0) (error-of error (verdict-is tested)),
       ⊎-elim
           (λ (accepted, _, _, _, _, _, rolled, drew, com-is, slots-are, reserves-are).
           rolled-memory (a .memory) _ (a .slot) (shape-at (entered tested)) (told (record { before = tested; if1 = accepted })) looked
@@ -129,7 +131,7 @@ revoke-spec =
     mul-own
     array-copy-out-own
     precommitted-requires
-    answer-requires
+    stores-requires
     is-accepted-requires
     roll-back-requires
     mul-slots

@@ -1,5 +1,5 @@
 -- A memory's pending work by the parts that the code takes: SAM, the SAM that a commit makes, and the stores done and due.
-use Prim.Native.Nat.{ℕ, _≤_, _<_}
+use Prim.Native.Nat.{ℕ, _≤_}
 use mathlib.Core.Path.{_≡_, sym, ap, _∙_}
 use mathlib.Core.Bool.{true}
 use mathlib.Core.List.{List}
@@ -12,10 +12,11 @@ use Rattle.model_types.specs.Pending.{storesFor}
 use Rattle.model.specs.Stores.{Store, changes}
 use Rattle.model.specs.Commit.{entriesOf, changedOf}
 use Rattle.model.specs.Valid.{pendingValid, valid}
-use Rattle.model.specs.Disk.{diskBlocks, logLength, logValid, recoveryMatches, diskMatches}
-use Rattle.model.proofs.Laws.Matching.{matching-parts}
-use Rattle.model.proofs.Laws.Pending.{commit-parts, recovery-parts}
+use Rattle.model.specs.Disk.{diskBlocks, logLength, logValid, diskMatches}
+use Rattle.model.proofs.Laws.Matching.{recovery-matches, matching-parts}
+use Rattle.model.proofs.Laws.Pending.{commit-parts, unfinished}
 use Rattle.model.proofs.Laws.Valid.{valid-parts}
+use Rattle.store.proofs.Laws.Progress.{recovery-less}
 
 -- ---- a commit, its changes from SAM to a new one
 
@@ -36,19 +37,11 @@ pub record InRecovery (disk : List ℕ) (done : ℕ) : Type 0 where
   pub done-few : done ≤ logLength disk
 
 module _ (memory : Memory) (done due : ℕ) (e : memory .pending ≡ Recovery done due) where
-  pub recovery-done-less : valid memory ≡ true → done < due
-  recovery-done-less v =
-      recovery-parts memory done due (ap (pendingValid memory) (sym e) ∙ valid-parts memory v .pending-valid) .not-ended
-
-  recovery-disk : (disk : List ℕ) → diskMatches memory disk (memory .pending) ≡ recoveryMatches (memory .blocks) (memory .sam .words) disk done due
-  unfolding diskMatches
-  recovery-disk disk = ap (diskMatches memory disk) e
-
   pub in-recovery : (disk : List ℕ) → valid memory ≡ true → diskMatches memory disk (memory .pending) ≡ true → InRecovery disk done
   in-recovery disk v m =
-      let parts = matching-parts (memory .blocks) (memory .sam .words) disk done due (sym (recovery-disk disk) ∙ m) in
+      let parts = matching-parts (memory .blocks) (memory .sam .words) disk done due (sym (recovery-matches memory disk done due) ∙ sym (ap (diskMatches memory disk) e) ∙ m) in
       record {
         few-blocks = omega (arith, valid-parts memory v .few-blocks, parts .blocks-is);
         log = parts .log;
-        done-few = omega (arith, recovery-done-less v, parts .due-is);
+        done-few = omega (arith, recovery-less done due e (unfinished memory (memory .pending) (valid-parts memory v .pending-valid)), parts .due-is);
       }

@@ -21,29 +21,30 @@ use Rattle.model_types.specs.Answers.{due}
 use Rattle.model.specs.First.{Cause, first, _⇒_}
 use Rattle.model_types.specs.Memory.{slotAt, reserveAt, idleSlot, isActive, withSam, withSlots, withReserve, withPending}
 use Rattle.model.specs.Reserves.{usedUp}
-use Rattle.model.specs.Stores.{Store, writes, after, changes, commitStores}
+use Rattle.model.specs.Stores.{Store, writes, changes, commitStores}
 use Rattle.model.specs.Commit.{committedSam, entriesOf, refreshed, committed}
-use Rattle.model_types.specs.Pending.{isNothing, ownerOf}
-use Rattle.model.specs.Pending.{storesDone, storesDue, oneMoreDone, finished}
-use Rattle.model.specs.Valid.{sameWords, valid, pendingValid}
-use Rattle.model.specs.Disk.{baseImage, dueStores, diskMatches}
+use Rattle.model_types.specs.Pending.{ownerOf}
+use Rattle.model.specs.Pending.{storesDone, storesDue, oneMoreDone, newSam, finished}
+use Rattle.model.specs.Valid.{valid, pendingValid}
+use Rattle.model.specs.Disk.{storesOf, nextDisk, dueStores, storesMatch, partsMatch, diskMatches}
 use Rattle.model.specs.Causes.{memoryInvalid, diskLengthWrong, diskMismatched, nothingPending}
+use Rattle.model.specs.CauseLists.{storeCauses}
 use Rattle.model.specs.Calls.Storing.{storeError, advanced, nextStored}
 use Rattle.model.specs.Sizes.{diskWords}
 use Rattle.model_types.proofs.Laws.Shape.{Shaped, empty-is}
 use Rattle.model.proofs.Laws.First.{cause-holds}
 use Rattle.model.proofs.Laws.Valid.{ValidParts, valid-parts, slot-below, noBits-empty}
 use Rattle.model.proofs.Laws.Committed.{committed-bitmap, committed-below}
-use Rattle.model.proofs.Laws.Pending.{CommitParts, commit-parts, precommitted-active, precommitted-below}
+use Rattle.model.proofs.Laws.Pending.{CommitParts, commit-parts, precommitted-active, precommitted-below, unfinished}
 use Rattle.model.proofs.Laws.CommittedTam.{committed-tam, entries-tam}
 use Rattle.verdicts.specs.declared.verdict.Verdict.{Verdict}
 use Rattle.verdicts.specs.Verdicts.{verdict}
 use Rattle.store.specs.Refreshed.{refreshedSlot}
-use Rattle.store.specs.Progress.{Unfinished, pendingAfter, endsCommit}
-use Rattle.store.specs.Step.{Fits, CanStore, partsMatch, storeCauses, storesOf, diskAfter}
+use Rattle.store.specs.Progress.{pendingAfter, endsCommit}
+use Rattle.store.specs.Step.{Fits, CanStore}
 use Rattle.store.proofs.Laws.Slots.{map-set}
 use Rattle.store.proofs.Laws.Refreshed.{refreshed-slot, refreshed-idle}
-use Rattle.store.proofs.Laws.PendingWork.{commit-due-is, recovery-done-less, in-recovery}
+use Rattle.store.proofs.Laws.PendingWork.{commit-due-is, in-recovery}
 
 -- the slot of a pending commit; another where there is none
 abbrev pub owner : Memory → Slot
@@ -97,21 +98,12 @@ module _ (memory : Memory) (shape : Shaped memory) (v : valid memory ≡ true) w
 
   -- ---- what is asked
 
-  unfinished : Unfinished (memory .pending)
-  unfolding isNothing storesDone storesDue
-  unfinished = go (memory .pending) refl
-    where
-      go : (p : Pending) → memory .pending ≡ p → Unfinished p
-      go Nothing e n = absurd (false≢true (sym n))
-      go (Commit s done due) e n = tested s done due e .not-ended
-      go (Recovery done due) e n = recovery-done-less memory done due e v
-
   pub fits : Fits (memory .blocks) (memory .sam .words) (owner memory .tam .words) (memory .pending)
   fits =
       record {
         few-blocks = parts .few-blocks;
         due-is = λ s done due e. commit-due-is memory s done due (owner memory .tam .words) e (entries-is s done due e) v;
-        unfinished = unfinished;
+        unfinished = unfinished memory (memory .pending) (parts .pending-valid);
       }
 
   pub can-store : (disk : List ℕ) → length disk ≡ diskWords → diskMatches memory disk (memory .pending) ≡ true
@@ -123,7 +115,7 @@ module _ (memory : Memory) (shape : Shaped memory) (v : valid memory ≡ true) w
         isSam = shape .sam;
         isNew = is;
         due-is = fits .due-is;
-        unfinished = unfinished;
+        unfinished = fits .unfinished;
         few-blocks = λ done due e. in-recovery memory done due e disk v m .few-blocks;
         log = λ done due e. in-recovery memory done due e disk v m .log;
         done-few = λ done due e. in-recovery memory done due e disk v m .done-few;
@@ -131,26 +123,24 @@ module _ (memory : Memory) (shape : Shaped memory) (v : valid memory ≡ true) w
 
   -- ---- the disk
 
-  matches-is : (disk : List ℕ) → partsMatch (memory .blocks) (memory .sam .words) (owner memory .tam .words) disk (memory .pending) ≡ diskMatches memory disk (memory .pending)
-  unfolding partsMatch diskMatches
-  matches-is disk = go (memory .pending) refl
+  -- the slot's TAM serves for the SAM that the work makes
+  stores-are : (disk : List ℕ) → storesOf (memory .sam .words) (owner memory .tam .words) disk (memory .pending) ≡ dueStores memory disk (memory .pending)
+  unfolding storesOf dueStores newSam
+  stores-are disk = go (memory .pending) refl
     where
-      go : (p : Pending) → memory .pending ≡ p → partsMatch (memory .blocks) (memory .sam .words) (owner memory .tam .words) disk p ≡ diskMatches memory disk p
+      go : (p : Pending) → memory .pending ≡ p → storesOf (memory .sam .words) (owner memory .tam .words) disk p ≡ dueStores memory disk p
       go Nothing e = refl
-      go (Commit s done due) e =
-          ap (λ (es : List Store). sameWords disk (after done (commitStores es) (baseImage (memory .blocks) (memory .sam .words) disk))) (sym (entries-is s done due e))
+      go (Commit s done due) e = ap (λ (sam : Bitmap). commitStores (changes (memory .sam .words) (sam .words))) (sym (sam-is s done due e))
       go (Recovery done due) e = refl
 
-  pub stored-is : (disk : List ℕ) → diskAfter (memory .sam .words) (owner memory .tam .words) disk (memory .pending) ≡ nextStored memory disk
-  unfolding diskAfter storesOf nextStored dueStores
-  stored-is disk = go (memory .pending) refl
-    where
-      go : (p : Pending) → memory .pending ≡ p
-          → diskAfter (memory .sam .words) (owner memory .tam .words) disk p ≡ writes (take 1 (drop (storesDone p) (dueStores memory disk p))) disk
-      go Nothing e = refl
-      go (Commit s done due) e =
-          ap (λ (es : List Store). writes (take 1 (drop (storesDone (Commit s done due)) (commitStores es))) disk) (sym (entries-is s done due e))
-      go (Recovery done due) e = refl
+  matches-is : (disk : List ℕ) → partsMatch (memory .blocks) (memory .sam .words) (owner memory .tam .words) disk (memory .pending)
+      ≡ partsMatch (memory .blocks) (memory .sam .words) (newSam memory (memory .pending)) disk (memory .pending)
+  unfolding partsMatch dueStores
+  matches-is disk = ap (λ (stores : List Store). storesMatch (memory .blocks) (memory .sam .words) disk stores (memory .pending)) (stores-are disk)
+
+  pub stored-is : (disk : List ℕ) → nextDisk (memory .sam .words) (owner memory .tam .words) disk (memory .pending) ≡ nextStored memory disk
+  unfolding nextDisk nextStored dueStores
+  stored-is disk = ap (λ (stores : List Store). writes (take 1 (drop (storesDone (memory .pending)) stores)) disk) (stores-are disk)
 
   -- ---- the memory
 
@@ -202,15 +192,16 @@ module _ (memory : Memory) (shape : Shaped memory) (v : valid memory ≡ true) w
 pub store-verdict : {judged : Verdict} {sound : Bool} (memory : Memory) (disk : List ℕ) → Shaped memory → sound ≡ valid memory
     → judged ≡ verdict (first (storeCauses sound (memory .blocks) (memory .sam .words) (owner memory .tam .words) disk (memory .pending)))
     → judged ≡ verdict (storeError memory disk)
-unfolding storeError memoryInvalid diskMismatched nothingPending
+unfolding storeError memoryInvalid diskMismatched
 store-verdict {judged} {sound} memory disk shape tested e = e ∙ rw tested (go (valid memory) refl)
   where
     causes : Bool → Bool → List Cause
-    causes t m = not t ⇒ MemoryInvalid ∷ diskLengthWrong disk ⇒ DiskLength ∷ not m ⇒ DiskMismatch ∷ isNothing (memory .pending) ⇒ NothingPending ∷ []
+    causes t m =
+        not t ⇒ MemoryInvalid ∷ diskLengthWrong disk ⇒ DiskLength ∷ not m ⇒ DiskMismatch ∷ nothingPending (memory .pending) ⇒ NothingPending ∷ []
 
     go : (t : Bool) → valid memory ≡ t
         → verdict (first (causes t (partsMatch (memory .blocks) (memory .sam .words) (owner memory .tam .words) disk (memory .pending))))
-        ≡ verdict (first (causes t (diskMatches memory disk (memory .pending))))
+        ≡ verdict (first (causes t (partsMatch (memory .blocks) (memory .sam .words) (newSam memory (memory .pending)) disk (memory .pending))))
     go true v = ap (λ (m : Bool). verdict (first (causes true m))) (matches-is memory shape v disk)
     go false v = ap verdict (cause-holds true MemoryInvalid _ refl ∙ sym (cause-holds true MemoryInvalid _ refl))
 

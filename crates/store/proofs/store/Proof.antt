@@ -17,6 +17,7 @@ use Rattle.model.specs.First.{first}
 use Rattle.model_types.specs.Memory.{idleSlot, noReserve, withSam, withSlots, withReserves, withPending}
 use Rattle.model.specs.Reserves.{usedUp}
 use Rattle.model_types.specs.Answers.{due}
+use Rattle.model.specs.Disk.{nextDisk}
 use Rattle.model.specs.Calls.Storing.{storeError, advanced, nextStored, storeAnswer, storeMemory, storeDisk}
 use Rattle.model_types.proofs.Laws.Shape.{Shaped, shaped}
 use Rattle.model.proofs.Laws.Accepted.{StoreAccepted, store-accepted}
@@ -25,7 +26,7 @@ use Rattle.verdicts.proofs.Laws.Verdicts.{error-of, accepted-none, accepted-lea
 use Rattle.verdicts.proofs.Laws.Ready.{owner-read, own-tam}
 use Rattle.store.specs.Refreshed.{refreshedSlot}
 use Rattle.store.specs.Progress.{Unfinished, pendingAfter}
-use Rattle.store.specs.Step.{storeCauses, diskAfter}
+use Rattle.model.specs.CauseLists.{storeCauses}
 use Rattle.store.proofs.Laws.Store.{owner, fits, can-store, stored-is, ended-commit, no-commit-ended, store-verdict, accepted-stores}
 use borrow.Author.Needs.{needs}
 use Rattle.store.proofs.store.Statement.{statement}
@@ -180,7 +181,7 @@ returns c =
             ∙ accepted-leaves error new (a .memory) is test (w .0 .taken),
         w .13
             ∙ w .6 .ensures
-            ∙ ap (λ (slot : Slot). diskAfter (a .memory .sam .words) (slot .tam .words) (now (a .disk)) (a .memory .pending)) (owner-at tested _)
+            ∙ ap (λ (slot : Slot). nextDisk (a .memory .sam .words) (slot .tam .words) (now (a .disk)) (a .memory .pending)) (owner-at tested _)
             ∙ stored-is (a .memory) shape (t .is-valid) (now (a .disk))
             ∙ accepted-leaves error disk (now (a .disk)) is test (w .0 .taken),
       ),

@@ -16,7 +16,8 @@ use Rattle.model_types.specs.declared.memory.Slot.{Slot}
 use Rattle.model_types.specs.declared.memory.Pending.{Pending}
 use Rattle.model_types.specs.declared.memory.Memory.{Memory}
 use Rattle.model_types.specs.Memory.{slotAt, isActive, emptyBitmap, noReserves, tamBit}
-use Rattle.model.specs.Valid.{touched, sameWords, allSlots, slotValid, touches, touchesAgree, reservationsFit, drawnFit, pendingValid, valid}
+use Rattle.model.specs.Touched.{touched}
+use Rattle.model.specs.Valid.{sameWords, allSlots, slotValid, touches, touchesAgree, reservationsFit, drawnFit, pendingValid, valid}
 use Rattle.model.proofs.Laws.Writes.{and-both, and-first, and-second, same-words, words-same}
 use Rattle.model.proofs.Laws.DiskParts.{inRange-low, inRange-high}
 use Rattle.model.proofs.Laws.Valid.{ValidParts, headValid, valid-parts, parts-valid, touchesBlock, touches-one, noBits-empty}

@@ -15,7 +15,8 @@ use Rattle.bitmap.proofs.Laws.Bits.{below-or-from}
 use Rattle.model_types.specs.declared.memory.Slot.{Slot}
 use Rattle.model_types.specs.declared.memory.Memory.{Memory}
 use Rattle.model_types.specs.Memory.{idleSlot, slotAt, isActive}
-use Rattle.model.specs.Valid.{touched, sameWords, touches}
+use Rattle.model.specs.Touched.{touched}
+use Rattle.model.specs.Valid.{sameWords, touches}
 use Rattle.model.proofs.Laws.Writes.{same-words}
 use Rattle.model.proofs.Laws.Valid.{touchesBlock}
 use Rattle.model.proofs.Laws.Touches.{one, differs}

@@ -19,7 +19,8 @@ use Rattle.model_types.specs.declared.memory.Memory.{Memory}
 use Rattle.model_types.specs.Memory.{slotAt, reserveAt, samBit, noReserve, noReserves, withReserves}
 use Rattle.model.specs.Available.{available}
 use Rattle.model.specs.Reserves.{totalReserved}
-use Rattle.model.specs.Valid.{took, takenBlocks, reservationsFit, drawnFit, valid}
+use Rattle.model.specs.Touched.{took, takenBlocks}
+use Rattle.model.specs.Valid.{reservationsFit, drawnFit, valid}
 use Rattle.model.proofs.Laws.Valid.{ValidParts, valid-parts, parts-valid, slot-below, fit-parts, parts-fit}
 use Rattle.model.proofs.Laws.Fit.{took-is, none-fits}
 use Rattle.model.proofs.Laws.Touches.{reserves-valid}

@@ -13,7 +13,8 @@ use Rattle.bitmap.proofs.Laws.Bits.{below-or-from, bit-empty, bitmap-ext, noBit
 use Rattle.model_types.specs.declared.memory.Slot.{Slot}
 use Rattle.model_types.specs.declared.memory.Memory.{Memory}
 use Rattle.model_types.specs.Memory.{idleSlot, slotAt, isActive, emptyBitmap, samBit, tamBit}
-use Rattle.model.specs.Valid.{touched, sameWords, slotValid, touches, valid}
+use Rattle.model.specs.Touched.{touched}
+use Rattle.model.specs.Valid.{sameWords, slotValid, touches, valid}
 use Rattle.model.proofs.Laws.Writes.{and-second, words-same}
 use Rattle.model.proofs.Laws.Valid.{ValidParts, allSlots-at, touches-at, touchesBlock, idle-valid, slot-below}
 use Rattle.model.proofs.Laws.Touches.{one, differs}

@@ -1,9 +1,9 @@
--- The causes told by parts are those of the memory.
+-- The slot that a call looks at, and its verdict: the causes of what the code has read are those of the memory.
 use Prim.Native.Nat.{ℕ, _<_}
 use mathlib.Core.Path.{_≡_, refl, ap, _∙_}
-use mathlib.Core.Bool.{Bool, true, false, not}
+use mathlib.Core.Bool.{Bool, true, false}
 use mathlib.Core.List.{List, [], _∷_, _++_}
-use lib.ListN.{getD, take}
+use lib.ListN.{getD, take, drop}
 use borrow.Author.Tests.{lt-ltb, ltb-true}
 use Rattle.bitmap.specs.Bits.{IsBitmap}
 use Rattle.bitmap.specs.Sizes.{slotCount, slotInRange, slotIndex, IsSlot}
@@ -11,12 +11,13 @@ use Rattle.model_types.specs.declared.memory.SlotState.{SlotState}
 use Rattle.model_types.specs.declared.memory.Slot.{Slot}
 use Rattle.model_types.specs.declared.memory.Memory.{Memory}
 use Rattle.model_types.specs.declared.error.Error.{Error}
-use Rattle.model_types.specs.declared.error.Error.the-variants.{SlotRange, SlotBusy, SlotIdle, SlotPrecommitted, SlotNotPrecommitted}
+use Rattle.model_types.specs.declared.error.Error.the-variants.{SlotRange}
 use Rattle.model.specs.First.{Cause, first, firstOr, _⇒_}
-use Rattle.model_types.specs.Memory.{slotAt, idleSlot, isActive, isPrecommitted}
+use Rattle.model_types.specs.Memory.{slotAt, idleSlot}
 use Rattle.model_types.specs.Pending.{ownerOf}
 use Rattle.model.specs.Valid.{valid}
-use Rattle.model.specs.Causes.{memoryInvalid, nothingPending, workPending, slotOutOfRange, slotActive, slotInactive, slotPrecommitted, slotNotPrecommitted}
+use Rattle.model.specs.Causes.{slotOutOfRange}
+use Rattle.model.specs.CauseLists.{readyCauses, idleCauses, openCauses, precommittedCauses}
 use Rattle.model.specs.Calls.Start.{startError}
 use Rattle.model.specs.Calls.Precommit.{precommitError}
 use Rattle.model.specs.Calls.Committing.{commitError}
@@ -25,7 +26,6 @@ use Rattle.model.specs.Calls.Revoke.{revokeError}
 use Rattle.model_types.proofs.Laws.Shape.{Shaped, slot-read}
 use Rattle.verdicts.specs.declared.verdict.Verdict.{Verdict}
 use Rattle.verdicts.specs.Verdicts.{verdict}
-use Rattle.verdicts.specs.Ready.{readyCauses, idleCauses, openCauses, precommittedCauses}
 
 -- ---- the slot that a call looks at
 
@@ -63,6 +63,7 @@ module _ (memory : Memory) (s : ℕ) (state : SlotState) (read : slotInRange s �
   -- causes of the slot's state, after 1, 8 and 10
   slot-causes : (causes : SlotState → List Cause)
       → first (readyCauses (valid memory) (memory .pending) s ++ causes state) ≡ first (readyCauses (valid memory) (memory .pending) s ++ causes (slotAt memory s .state))
+  unfolding slotOutOfRange
   slot-causes causes = go (slotInRange s) refl
     where
       ready : List Cause
@@ -72,29 +73,25 @@ module _ (memory : Memory) (s : ℕ) (state : SlotState) (read : slotInRange s �
       go true e = ap (λ (x : SlotState). first (ready ++ causes x)) (read e)
       go false e = rw e (unreached (take 2 ready) SlotRange _ _)
 
-  idle-error : first (idleCauses (valid memory) (memory .pending) s state) ≡ startError memory s
-  unfolding startError memoryInvalid workPending nothingPending slotOutOfRange slotActive
-  idle-error = slot-causes (λ x. isActive x ⇒ SlotBusy ∷ [])
-
-  open-error : first (openCauses (valid memory) (memory .pending) s state) ≡ precommitError memory s
-  unfolding precommitError memoryInvalid workPending nothingPending slotOutOfRange slotInactive slotActive slotPrecommitted
-  open-error = slot-causes (λ x. not (isActive x) ⇒ SlotIdle ∷ isPrecommitted x ⇒ SlotPrecommitted ∷ [])
-
-  precommitted-error : first (precommittedCauses (valid memory) (memory .pending) s state) ≡ commitError memory s
-  unfolding commitError memoryInvalid workPending nothingPending slotOutOfRange slotInactive slotActive slotNotPrecommitted slotPrecommitted
-  precommitted-error = slot-causes (λ x. not (isActive x) ⇒ SlotIdle ∷ not (isPrecommitted x) ⇒ SlotNotPrecommitted ∷ [])
-
 -- ---- a call's verdict, by what the code has tested and read
 
 module _ {i : ℕ} {v : Verdict} {sound : Bool} (memory : Memory) (d : Slot) (s : ℕ) (shape : Shaped memory) (index : IsSlot (slotIndex s) i) (tested : sound ≡ valid memory) where
+  slot-verdict : (causes : SlotState → List Cause)
+      → v ≡ verdict (first (readyCauses sound (memory .pending) s ++ causes (getD (memory .slots) i d .state)))
+      → v ≡ verdict (first (readyCauses (valid memory) (memory .pending) s ++ causes (slotAt memory s .state)))
+  slot-verdict causes e = e ∙ rw tested (ap verdict (slot-causes memory s _ (own-state memory d s shape index) causes))
+
   pub idle-verdict : v ≡ verdict (first (idleCauses sound (memory .pending) s (getD (memory .slots) i d .state))) → v ≡ verdict (startError memory s)
-  idle-verdict e = e ∙ rw tested (ap verdict (idle-error memory s _ (own-state memory d s shape index)))
+  unfolding startError
+  idle-verdict e = slot-verdict (λ x. drop 3 (idleCauses sound (memory .pending) s x)) e
 
   pub open-verdict : v ≡ verdict (first (openCauses sound (memory .pending) s (getD (memory .slots) i d .state))) → v ≡ verdict (precommitError memory s)
-  open-verdict e = e ∙ rw tested (ap verdict (open-error memory s _ (own-state memory d s shape index)))
+  unfolding precommitError
+  open-verdict e = slot-verdict (λ x. drop 3 (openCauses sound (memory .pending) s x)) e
 
   pub precommitted-verdict : v ≡ verdict (first (precommittedCauses sound (memory .pending) s (getD (memory .slots) i d .state))) → v ≡ verdict (commitError memory s)
-  precommitted-verdict e = e ∙ rw tested (ap verdict (precommitted-error memory s _ (own-state memory d s shape index)))
+  unfolding commitError
+  precommitted-verdict e = slot-verdict (λ x. drop 3 (precommittedCauses sound (memory .pending) s x)) e
 
   -- the causes of a drop are those of a precommit, the causes of a revoke those of a commit
   pub drop-verdict : v ≡ verdict (first (openCauses sound (memory .pending) s (getD (memory .slots) i d .state))) → v ≡ verdict (dropError memory s)

@@ -59,9 +59,14 @@ none-before (x ∷ xs) ys e = go (x .holds) e (none-before xs ys)
     go false e later = later e
 
 -- causes that are known only where none held before
-pub then-same : (found : Option Error) (xs ys : List Cause) → (found ≡ none → xs ≡ ys) → thenCauses (verdict found) xs ≡ thenCauses (verdict found) ys
+then-same : (found : Option Error) (xs ys : List Cause) → (found ≡ none → xs ≡ ys) → thenCauses (verdict found) xs ≡ thenCauses (verdict found) ys
 then-same none xs ys e = ap (thenCauses Verdict.Accepted) (e refl)
 then-same (some error) xs ys e = refl
+
+-- a list that goes on with causes of a number, which is the right one where none held before
+pub then-read : {v earlier : Verdict} {read right : ℕ} (xs : List Cause) (causes : ℕ → List Cause)
+    → v ≡ thenCauses earlier (causes read) → earlier ≡ verdict (first xs) → (first xs ≡ none → read ≡ right) → v ≡ verdict (first (xs ++ causes right))
+then-read xs causes e f g = e ∙ rw f (then-same (first xs) _ _ (λ passed. ap causes (g passed)) ∙ then-causes xs _)
 
 -- what is refused stays so
 pub then-refused : {t : Bool} (v : Verdict) (causes : List Cause) → t ≡ isAccepted v → t ≡ false → v ≡ thenCauses v causes

@@ -66,7 +66,7 @@ module _ (disk : List ℕ) where
   -- a disk that opens: its log, and its answer and memory
   module _ (opens : openError disk ≡ none) where
     pub log-there : logValid disk ≡ true
-    log-there = log-valid disk (opens-parts disk opens .few-entries) (opens-parts disk opens .entries)
+    log-there = log-valid disk (opens-parts disk opens .word-one) (opens-parts disk opens .entries)
 
     pub few-logged : logLength disk ≤ 128
     few-logged = omega (arith, opens-parts disk opens .few-entries, opens-parts disk opens .few-blocks)

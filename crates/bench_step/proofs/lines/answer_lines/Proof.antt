@@ -122,6 +122,9 @@ precommit-requires c κs = search needs
 number-requires-6 : tie.Need-number-requires-6 Inv-loop μ-loop
 number-requires-6 c κs = search needs
 
+value-requires-3 : tie.Need-value-requires-3 Inv-loop μ-loop
+value-requires-3 c κs = search needs
+
 enum-told-8 : tie.Need-enum-told-8 Inv-loop μ-loop
 enum-told-8 c = search needs
 
@@ -131,8 +134,8 @@ commit-requires c κs = search needs
 number-requires-7 : tie.Need-number-requires-7 Inv-loop μ-loop
 number-requires-7 c κs = search needs
 
-value-requires-3 : tie.Need-value-requires-3 Inv-loop μ-loop
-value-requires-3 c κs = search needs
+value-requires-4 : tie.Need-value-requires-4 Inv-loop μ-loop
+value-requires-4 c κs = search needs
 
 enum-told-9 : tie.Need-enum-told-9 Inv-loop μ-loop
 enum-told-9 c = search needs
@@ -152,6 +155,9 @@ revoke-requires c κs = search needs
 number-requires-9 : tie.Need-number-requires-9 Inv-loop μ-loop
 number-requires-9 c κs = search needs
 
+value-requires-5 : tie.Need-value-requires-5 Inv-loop μ-loop
+value-requires-5 c κs = search needs
+
 enum-told-11 : tie.Need-enum-told-11 Inv-loop μ-loop
 enum-told-11 c = search needs
 
@@ -161,8 +167,8 @@ store-requires c κs = search needs
 number-requires-10 : tie.Need-number-requires-10 Inv-loop μ-loop
 number-requires-10 c κs = search needs
 
-value-requires-4 : tie.Need-value-requires-4 Inv-loop μ-loop
-value-requires-4 c κs = search needs
+value-requires-6 : tie.Need-value-requires-6 Inv-loop μ-loop
+value-requires-6 c κs = search needs
 
 enum-told-12 : tie.Need-enum-told-12 Inv-loop μ-loop
 enum-told-12 c = search needs
@@ -173,8 +179,8 @@ status-requires c κs = search needs
 number-requires-11 : tie.Need-number-requires-11 Inv-loop μ-loop
 number-requires-11 c κs = search needs
 
-value-requires-5 : tie.Need-value-requires-5 Inv-loop μ-loop
-value-requires-5 c κs = search needs
+value-requires-7 : tie.Need-value-requires-7 Inv-loop μ-loop
+value-requires-7 c κs = search needs
 
 enum-told-13 : tie.Need-enum-told-13 Inv-loop μ-loop
 enum-told-13 c = search needs
@@ -218,8 +224,9 @@ stepped c =
     (λ (_, parsed, _, _, op, called, _, number, memory, disk, code, value).
     call-step (parsed .given .1) (op .given .1) (ap length disk) (answer-is doneNumber (λ _. 0) (memory ∙ called .ensures .1) disk (code ∙ number .ensures) value (called .ensures .0)))
     (⊎-elim  -- precommit
-    (λ (_, parsed, _, _, op, called, _, number, memory, disk, code, value).
-    call-step (parsed .given .1) (op .given .1) (ap length disk) (answer-is doneNumber (λ _. 0) (memory ∙ called .ensures .1) disk (code ∙ number .ensures) value (called .ensures .0)))
+    (λ (_, parsed, _, _, op, called, _, number, given, memory, disk, code, value).
+    call-step (parsed .given .1) (op .given .1) (ap length disk)
+    (answer-is storesNumber storesValue (memory ∙ called .ensures .1) disk (code ∙ number .ensures) (value ∙ given .ensures) (called .ensures .0)))
     (⊎-elim  -- commit
     (λ (_, parsed, _, _, op, called, _, number, given, memory, disk, code, value).
     call-step (parsed .given .1) (op .given .1) (ap length disk)
@@ -228,8 +235,9 @@ stepped c =
     (λ (_, parsed, _, _, op, called, _, number, memory, disk, code, value).
     call-step (parsed .given .1) (op .given .1) (ap length disk) (answer-is doneNumber (λ _. 0) (memory ∙ called .ensures .1) disk (code ∙ number .ensures) value (called .ensures .0)))
     (⊎-elim  -- revoke
-    (λ (_, parsed, _, _, op, called, _, number, memory, disk, code, value).
-    call-step (parsed .given .1) (op .given .1) (ap length disk) (answer-is doneNumber (λ _. 0) (memory ∙ called .ensures .1) disk (code ∙ number .ensures) value (called .ensures .0)))
+    (λ (_, parsed, _, _, op, called, _, number, given, memory, disk, code, value).
+    call-step (parsed .given .1) (op .given .1) (ap length disk)
+    (answer-is storesNumber storesValue (memory ∙ called .ensures .1) disk (code ∙ number .ensures) (value ∙ given .ensures) (called .ensures .0)))
     (⊎-elim  -- store
     (λ (_, parsed, _, _, op, _, called, _, _, _, number, given, memory, disk, code, value).
     call-step (parsed .given .1) (op .given .1) (ap length disk ∙ called .kept .1 .0)
@@ -322,24 +330,26 @@ answer-lines-spec =
     enum-told-7
     precommit-requires
     number-requires-6
+    value-requires-3
     enum-told-8
     commit-requires
     number-requires-7
-    value-requires-3
+    value-requires-4
     enum-told-9
     drop-requires
     number-requires-8
     enum-told-10
     revoke-requires
     number-requires-9
+    value-requires-5
     enum-told-11
     store-requires
     number-requires-10
-    value-requires-4
+    value-requires-6
     enum-told-12
     status-requires
     number-requires-11
-    value-requires-5
+    value-requires-7
     enum-told-13
     zero-requires
     print-answer-requires

@@ -8,9 +8,8 @@ use borrow.Author.Tests.{not-true, not-false}
 use borrow.Author.Needs.{needs}
 use Rattle.bitmap.specs.Sizes.{bitmapWords}
 use Rattle.model_types.specs.Pending.{changedFor}
-use Rattle.model.specs.Stores.{after, changes, commitStores}
-use Rattle.model.specs.Valid.{sameWords}
-use Rattle.model.specs.Disk.{baseImage}
+use Rattle.model.specs.Stores.{changes, commitStores}
+use Rattle.model.specs.Disk.{imageMatches}
 use Rattle.model.proofs.Laws.Changes.{changes-length}
 use Rattle.disk_match.specs.Matching.{headIs, keptMatch, changedMatch, lengthAfter, checkpointedAfter}
 use Rattle.disk_match.proofs.Laws.DiskMatches.{commit-tests}
@@ -29,7 +28,7 @@ tests : (c : tie.After-changed-for)
     let sam = now (a .sam) in
     let new = now (a .new) in
     let disk = now (a .disk) in
-    sameWords disk (after (a .done) (commitStores (changes sam new)) (baseImage (a .blocks) sam disk))
+    imageMatches (a .blocks) sam disk (a .done) (commitStores (changes sam new))
     ≡ (headIs disk (a .blocks) (lengthAfter (changedFor (a .due)) (a .done))
     && keptMatch disk 0 sam new
     && changedMatch disk (a .done) (checkpointedAfter (changedFor (a .due)) (a .done)) 0 0 sam new)

@@ -3,6 +3,7 @@ use mathlib.Core.Path.{ap}
 use mathlib.Core.Bool.{not}
 use denote.Ref.{now}
 use borrow.Author.Tests.{not-false}
+use Rattle.model.specs.Causes.{diskMismatched, nothingPending}
 use Rattle.verdicts.proofs.Laws.Verdicts.{then-tested}
 use Rattle.store.proofs.Laws.Step.{unsound-refused, length-refused, both-passed}
 use borrow.Author.Needs.{needs}
@@ -30,6 +31,7 @@ unless-requires-2 : tie.Need-unless-requires-2
 unless-requires-2 c κs = search needs
 
 returns-3 : tie.Need-returns-3
+unfolding diskMismatched nothingPending
 returns-3 c =
     let past = c .before .before .before .before in
     let a = past .before .before .before .args in

@@ -1,7 +1,7 @@
 -- By the kind of work.
 use mathlib.Core.Path.{sym, ap, _∙_}
 use denote.Ref.{now}
-use Rattle.store.specs.Step.{partsMatch}
+use Rattle.model.specs.Disk.{storesOf, storesMatch, partsMatch}
 use Rattle.store.proofs.Laws.Progress.{commit-less, recovery-less}
 use borrow.Author.Needs.{needs}
 use Rattle.store.proofs.step.matches.Statement.{statement}
@@ -33,19 +33,19 @@ recovery-matches-requires c κs =
     (p .0, (p .1 .0, (fits .few-blocks, recovery-less _ _ (c .before .pending2 .given .1) (fits .unfinished))))
 
 returns : tie.Need-returns
-unfolding partsMatch
+unfolding partsMatch storesMatch storesOf
 returns c =
     let a = c .before .before .before .before .args in
     c .settled-matches .ensures ∙ sym (ap (partsMatch (a .blocks) (now (a .sam)) (now (a .new)) (now (a .disk))) (c .before .enum-told .given .1))
 
 returns-2 : tie.Need-returns-2
-unfolding partsMatch
+unfolding partsMatch storesMatch storesOf
 returns-2 c =
     let a = c .before .before .before .before .before .args in
     c .commit-matches .ensures ∙ sym (ap (partsMatch (a .blocks) (now (a .sam)) (now (a .new)) (now (a .disk))) (c .before .before .pending .given .1))
 
 returns-3 : tie.Need-returns-3
-unfolding partsMatch
+unfolding partsMatch storesMatch storesOf
 returns-3 c =
     let a = c .before .before .before .before .before .args in
     c .recovery-matches .ensures ∙ sym (ap (partsMatch (a .blocks) (now (a .sam)) (now (a .new)) (now (a .disk))) (c .before .before .pending2 .given .1))

@@ -3,7 +3,7 @@ use mathlib.Core.Path.{sym, ap, _∙_}
 use denote.Ref.{now}
 use Rattle.model.specs.Stores.{writes}
 use Rattle.model.specs.Pending.{storesDone}
-use Rattle.store.specs.Step.{storesOf, diskAfter}
+use Rattle.model.specs.Disk.{storesOf, nextDisk}
 use Rattle.store.proofs.Laws.Progress.{commit-less}
 use borrow.Author.Needs.{needs}
 use Rattle.store.proofs.step.store_next.Statement.{statement}
@@ -31,28 +31,28 @@ store-recovery-requires c κs =
     (can .size, (can .few-blocks _ _ is, (can .log _ _ is, can .done-few _ _ is)))
 
 returns : tie.Need-returns
-unfolding diskAfter storesOf storesDone writes
+unfolding nextDisk storesOf storesDone writes
 returns c =
     let a = c .before .before .before .args in
-    sym (ap (diskAfter (now (a .sam)) (now (a .new)) (now (a .disk))) (c .enum-told .given .1))
+    sym (ap (nextDisk (now (a .sam)) (now (a .new)) (now (a .disk))) (c .enum-told .given .1))
 
 same-length : tie.Need-same-length
 same-length c = search needs
 
 returns-2 : tie.Need-returns-2
-unfolding diskAfter storesOf storesDone
+unfolding nextDisk storesOf storesDone
 returns-2 c =
     let a = c .before .before .before .before .before .before .before .before .args in
-    c .before .before .store-commit .ensures ∙ sym (ap (diskAfter (now (a .sam)) (now (a .new)) (now (a .disk))) (c .before .before .before .before .before .pending .given .1))
+    c .before .before .store-commit .ensures ∙ sym (ap (nextDisk (now (a .sam)) (now (a .new)) (now (a .disk))) (c .before .before .before .before .before .pending .given .1))
 
 same-length-2 : tie.Need-same-length-2
 same-length-2 c = search needs
 
 returns-3 : tie.Need-returns-3
-unfolding diskAfter storesOf storesDone
+unfolding nextDisk storesOf storesDone
 returns-3 c =
     let a = c .before .before .before .before .before .before .before .before .args in
-    c .before .before .store-recovery .ensures ∙ sym (ap (diskAfter (now (a .sam)) (now (a .new)) (now (a .disk))) (c .before .before .before .before .before .pending2 .given .1))
+    c .before .before .store-recovery .ensures ∙ sym (ap (nextDisk (now (a .sam)) (now (a .new)) (now (a .disk))) (c .before .before .before .before .before .pending2 .given .1))
 
 pub store-next-spec : {M : Type 1} → statement M
 store-next-spec =

@@ -2,6 +2,7 @@
 use mathlib.Core.Path.{ap}
 use mathlib.Core.Bool.{not}
 use borrow.Author.Needs.{needs}
+use Rattle.model.specs.Causes.{slotInactive, slotActive}
 use Rattle.verdicts.proofs.Laws.Verdicts.{then-tested}
 use Rattle.verdicts.proofs.ready.active.Statement.{statement}
 use Rattle.verdicts.proofs.ready.active.Tie as tie
@@ -16,6 +17,7 @@ unless-requires : tie.Need-unless-requires
 unless-requires c κs = search needs
 
 returns : tie.Need-returns
+unfolding slotInactive slotActive
 returns c =
     let earlier = c .before .before .ready in
     let tested = c .before .is-active in

@@ -1,5 +1,6 @@
 -- One cause more.
 use borrow.Author.Needs.{needs}
+use Rattle.model.specs.Causes.{slotActive}
 use Rattle.verdicts.proofs.Laws.Verdicts.{then-tested}
 use Rattle.verdicts.proofs.ready.idle.Statement.{statement}
 use Rattle.verdicts.proofs.ready.idle.Tie as tie
@@ -14,6 +15,7 @@ unless-requires : tie.Need-unless-requires
 unless-requires c κs = search needs
 
 returns : tie.Need-returns
+unfolding slotActive
 returns c =
     let earlier = c .before .before .ready in
     let tested = c .before .is-active in

@@ -1,5 +1,6 @@
 -- One cause more.
 use borrow.Author.Needs.{needs}
+use Rattle.model.specs.Causes.{slotPrecommitted}
 use Rattle.verdicts.proofs.Laws.Verdicts.{then-tested}
 use Rattle.verdicts.proofs.ready.open.Statement.{statement}
 use Rattle.verdicts.proofs.ready.open.Tie as tie
@@ -14,6 +15,7 @@ unless-requires : tie.Need-unless-requires
 unless-requires c κs = search needs
 
 returns : tie.Need-returns
+unfolding slotPrecommitted
 returns c =
     let earlier = c .before .before .active in
     let tested = c .before .is-precommitted in

@@ -2,6 +2,7 @@
 use mathlib.Core.Path.{ap}
 use mathlib.Core.Bool.{not}
 use borrow.Author.Needs.{needs}
+use Rattle.model.specs.Causes.{slotNotPrecommitted, slotPrecommitted}
 use Rattle.verdicts.proofs.Laws.Verdicts.{then-tested}
 use Rattle.verdicts.proofs.ready.precommitted.Statement.{statement}
 use Rattle.verdicts.proofs.ready.precommitted.Tie as tie
@@ -16,6 +17,7 @@ unless-requires : tie.Need-unless-requires
 unless-requires c κs = search needs
 
 returns : tie.Need-returns
+unfolding slotNotPrecommitted slotPrecommitted
 returns c =
     let earlier = c .before .before .active in
     let tested = c .before .is-precommitted in

@@ -2,6 +2,7 @@
 use mathlib.Core.Path.{refl, ap}
 use mathlib.Core.Bool.{not}
 use borrow.Author.Needs.{needs}
+use Rattle.model.specs.Causes.{memoryInvalid, workPending, nothingPending, slotOutOfRange}
 use Rattle.verdicts.proofs.Laws.Verdicts.{none-tested, then-tested}
 use Rattle.verdicts.proofs.ready.ready.Statement.{statement}
 use Rattle.verdicts.proofs.ready.ready.Tie as tie
@@ -22,6 +23,7 @@ unless-requires-3 : tie.Need-unless-requires-3
 unless-requires-3 c κs = search needs
 
 returns : tie.Need-returns
+unfolding memoryInvalid workPending nothingPending slotOutOfRange
 returns c =
     let in-range = c .before .slot-in-range in
     let settled = c .before .before .unless2 in

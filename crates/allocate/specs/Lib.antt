@@ -1,2 +1,0 @@
--- The causes that allocate alone tests.
-pub mod Causes

@@ -1,2 +1,0 @@
--- The causes that commit cost tests after those of an open slot.
-pub mod Causes

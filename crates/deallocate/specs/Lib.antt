@@ -1,2 +1,0 @@
--- The causes that deallocate alone tests.
-pub mod Causes
