@@ -3,25 +3,24 @@ use Prim.Native.Nat.{ℕ, _+_, _≤_, _<_}
 use native.Mathlib.Omega.{arith}
 use mathlib.Core.Path.{_≡_, refl, sym, ap, _∙_, subst}
 use mathlib.Core.Logic.{inl}
-use mathlib.Core.Bool.{Bool, true, false, cond, true≢false}
+use mathlib.Core.Bool.{true, false, true≢false}
 use mathlib.Core.List.{List, [], _∷_}
 use lib.ListN.{length}
-use lib.Dec.{eqb}
 use Rattle.bitmap.specs.Sizes.{slotCount, wordsFor}
 use Rattle.model_types.specs.declared.memory.Memory.{Memory}
 use Rattle.model_types.specs.declared.memory.Pending.{Pending}
 use Rattle.model_types.specs.declared.memory.Pending.the-variants.{Nothing, Commit}
 use Rattle.model_types.specs.Memory.{slotAt}
-use Rattle.model.specs.Commit.{changedOf, commitDue, committed}
+use Rattle.model.specs.Commit.{commitDue, committed}
 use Rattle.model.specs.Pending.{oneMoreDone}
 use Rattle.model.specs.Valid.{pendingValid}
 use Rattle.model.specs.Calls.Format.{formatDisk}
-use Rattle.model.specs.Calls.Committing.{commitError, committing, commitAnswer}
+use Rattle.model.specs.Calls.Committing.{commitError, commitAnswer}
 use Rattle.model.specs.Touched.{touchedBlocks}
 use Rattle.model.specs.Calls.CommitCost.{commitCostError, costFor, commitCost, commitCostAnswer}
 use Rattle.model.proofs.Laws.Valid.{ValidParts, valid-parts}
 use Rattle.model.proofs.Laws.ChangeMade.{change-leaves}
-use Rattle.model.proofs.Laws.Progress.{by-finish, by-store}
+use Rattle.model.proofs.Laws.Progress.{by-finish, by-store, by-commit}
 use Rattle.model.proofs.Laws.Pending.{commit-parts, precommitted-active, precommitted-below}
 use Rattle.model.proofs.Laws.Accepted.{Ready, CommitAccepted, commit-accepted, CommitCostAccepted, commit-cost-accepted}
 use Rattle.model.specs.Outcome.{Call}
@@ -48,10 +47,6 @@ module _ (memory : Memory) (s : ℕ) (eight : length (memory .slots) ≡ slotCou
   abbrev None : Memory → Type 0
   None new = Touches memory new s 0
 
-  one-of : (u : Bool) (x y : Memory) → None x → None y → None (cond u x y)
-  one-of true x y p q = p
-  one-of false x y p q = q
-
   -- a pending commit ends
   commit-touches : (t done due : ℕ) → memory .pending ≡ Commit t done due → None (committed memory t)
   commit-touches t done due e =
@@ -62,7 +57,7 @@ module _ (memory : Memory) (s : ℕ) (eight : length (memory .slots) ≡ slotCou
 
   work-touches : (call : Call) (disk : List ℕ) (new : Work) → Made call new memory disk → Fails endsUse new memory
       → Touches memory (worked new memory disk) s (touchesFor s new)
-  unfolding endsUse worked touchesFor committing
+  unfolding endsUse worked touchesFor
   work-touches call disk openWork m f = absurd (true≢false f)
   work-touches call disk crashWork m f = absurd (true≢false f)
   work-touches call disk storeWork m f =
@@ -70,7 +65,7 @@ module _ (memory : Memory) (s : ℕ) (eight : length (memory .slots) ≡ slotCou
       (by-finish None memory (record { few = omega arith; volume = refl }) (pending-touches memory s Nothing) (memory .pending) commit-touches)
       (pending-touches memory s (oneMoreDone (memory .pending)))
   work-touches call disk (commitWork t) a f =
-      one-of (eqb (changedOf memory t) 0) _ _
+      by-commit None memory t
       (committed-touches memory s t parts (there t (a .ready)) (a .active)) (pending-touches memory s (Commit t 0 (commitDue memory t)))
   work-touches call disk (changeWork t change) m f = change-leaves memory parts t (m .0) (there t (m .0)) change (m .1) .touches s
 

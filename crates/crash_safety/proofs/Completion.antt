@@ -34,7 +34,7 @@ use Rattle.model.proofs.Laws.Valid.{valid-parts}
 use Rattle.model.proofs.Laws.Pending.{unfinished}
 use Rattle.model.proofs.Laws.Committed.{committed-bitmap}
 use Rattle.model.proofs.Laws.DueStores.{due-length}
-use Rattle.model.proofs.Laws.Progress.{some-left, one-fewer, finished-pending, by-finish, by-store}
+use Rattle.model.proofs.Laws.Progress.{some-left, one-fewer, finished-pending, by-finish, by-store, by-commit}
 use Rattle.model.proofs.Laws.Stored.{stored-memory, stored-disk, stored-is}
 use Rattle.crash_safety.specs.World.{World, step, run}
 use Rattle.crash_safety.specs.InOrder.{Consistent, InUse, Completes}
@@ -96,10 +96,6 @@ committed-shaped memory s shaped =
 
 pending-shaped : (memory : Memory) (pending : Pending) → Shaped memory → Shaped (withPending memory pending)
 pending-shaped memory pending shaped = record { slots = shaped .slots; sam = shaped .sam }
-
-one-shaped : (t : Bool) {x y : Memory} → Shaped x → Shaped y → Shaped (cond t x y)
-one-shaped true p q = p
-one-shaped false p q = q
 
 advanced-shaped : (memory : Memory) → Shaped memory → Shaped (advanced memory (memory .pending))
 advanced-shaped memory shaped =
@@ -168,8 +164,7 @@ module _ (memory : Memory) (s : ℕ) where
   none-changed = eqb (changedOf memory s) 0
 
   committing-shaped : Shaped memory → Shaped (committing memory s)
-  unfolding committing
-  committing-shaped shaped = one-shaped none-changed (committed-shaped memory s shaped) (pending-shaped memory _ shaped)
+  committing-shaped shaped = by-commit Shaped memory s (committed-shaped memory s shaped) (pending-shaped memory _ shaped)
 
   -- it is finished by what it makes, with stores or without
   committing-finished : finished (committing memory s) (committing memory s .pending) ≡ committed memory s

@@ -4,7 +4,7 @@ use native.Mathlib.Decide.{decLe}
 use native.Mathlib.Nat.{lt-of-not-le}
 use native.Mathlib.Omega.{arith}
 use mathlib.Core.Path.{_≡_, refl, sym, ap, _∙_}
-use mathlib.Core.Bool.{Bool, true, false, cond, _&&_, true≢false}
+use mathlib.Core.Bool.{Bool, true, false, _&&_, true≢false}
 use mathlib.Core.List.{List}
 use lib.ListN.{length}
 use lib.Seq.{getD-set-other}
@@ -21,12 +21,13 @@ use Rattle.model.specs.Calls.Committing.{committing}
 use Rattle.model.specs.Calls.Storing.{advanced}
 use Rattle.model.specs.Calls.Format.{formatDisk}
 use Rattle.model.specs.Outcome.{Call}
-use Rattle.model.specs.Work.{Change, bearing, revokes, changed, Work, openWork, crashWork, storeWork, commitWork, changeWork, worked, workedDisk}
+use Rattle.model.specs.Work.{Change, bearing, changed, Work, openWork, crashWork, storeWork, commitWork, changeWork, worked, workedDisk}
 use Rattle.model.proofs.Laws.Work.{ChangeMade, Made, Fails}
 use Rattle.model.proofs.Laws.Accepted.{Ready}
 use Rattle.model.proofs.Laws.Valid.{valid-parts}
 use Rattle.model.proofs.Laws.Change.{change-frame}
 use Rattle.model.proofs.Laws.ChangeMade.{change-leaves}
+use Rattle.model.proofs.Laws.Progress.{either, by-commit}
 use Rattle.model.proofs.Laws.Committed.{refreshed-at}
 use Rattle.crash_safety.specs.Ledger.{Sets, noSets, Ledger, setsOf, setsWords, withSets, counts, commits, countsStore, stores, entered}
 use Rattle.crash_safety.specs.World.{World, worldOf, begin, run}
@@ -34,11 +35,6 @@ use Rattle.crash_safety.specs.RevokeAlone.{Waiting, endsWaiting, RevokeA
 use Rattle.crash_safety.proofs.Invariant.{PendingTied, Invariant, countingOf}
 use Rattle.crash_safety.proofs.Works.{told, change-told, after}
 use Rattle.crash_safety.proofs.Keeps.{run-keeps, by-kept, begins-formatted}
-
--- what holds of both holds of either
-either : {A : Type 0} (P : A → Type 0) (u : Bool) {x y : A} → P x → P y → P (cond u x y)
-either P true p q = p
-either P false p q = q
 
 -- the pending work isn't the commit of slot s
 abbrev Elsewhere : ℕ → Pending → Type 0
@@ -116,9 +112,8 @@ module _ (s : ℕ) (sets : Sets) (w : World) (waits : Waiting s sets w) where
 
     -- it begins, and ends at once where it has no stores
     committing-waits : (t : ℕ) → (s ≡ t → ⊥) → Waits (committing (w .memory) t)
-    unfolding committing
     committing-waits t other =
-        either Waits (eqb (changedOf (w .memory) t) 0) (committed-waits t other)
+        by-commit Waits (w .memory) t (committed-waits t other)
         (pending-waits (Commit t 0 (commitDue (w .memory) t)) (λ _ _ e. other (cc)))
 
     -- the pending work's next store
@@ -132,7 +127,7 @@ module _ (s : ℕ) (sets : Sets) (w : World) (waits : Waiting s sets w) where
         (pending-waits (Commit t (done + 1) due) (λ _ _ e. elsewhere done due (cc)))
 
   -- of the slot itself there is no other change than a revoke, so a work that spares it is of another one
-  another : Invariant w → (t : ℕ) (change : Change) (own : Bool) → eqb t s ≡ own → (own && revokes (bearing change)) ≡ false
+  another : Invariant w → (t : ℕ) (change : Change) (own : Bool) → eqb t s ≡ own → (own && bearing change .revokes) ≡ false
       → Ready (w .memory) t → ChangeMade change (w .memory) t → s ≡ t → ⊥
   another i t change true q f ready a e =
       let there : t < length (w .memory .slots) = omega (arith, i .related (ready .is-valid) .slots, ready .below) in

@@ -16,7 +16,7 @@ use Rattle.model_types.specs.Memory.{slotAt, reserveAt}
 use Rattle.model.specs.Calls.Reserve.{reserveAnswer}
 use Rattle.model.specs.Reservations.{MayAsk, Allocates, changesReservation}
 use Rattle.model.specs.Outcome.{Call, reserveCall}
-use Rattle.model.specs.Work.{Work, openWork, crashWork, storeWork, commitWork, changeWork, bearing, setsAside}
+use Rattle.model.specs.Work.{Work, openWork, crashWork, storeWork, commitWork, changeWork, bearing}
 use Rattle.crash_safety.specs.World.{World, step, run, Without}
 use Rattle.crash_safety.specs.InOrder.{InUse, AfterEvery}
 
@@ -58,7 +58,7 @@ settles s openWork pending = true
 settles s crashWork pending = true
 settles s storeWork pending = false
 settles s (commitWork t) pending = eqb t s
-settles s (changeWork t change) pending = eqb t s && setsAside (bearing change)
+settles s (changeWork t change) pending = eqb t s && bearing change .setsAside
 
 -- and after every list of calls, in use: "a drop or revoke puts back what that transaction used of it". Whatever an idle slot takes in
 -- calls that do no such work, if it is idle after them it has its whole reservation again

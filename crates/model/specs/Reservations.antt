@@ -20,7 +20,7 @@ use Rattle.model.specs.Calls.Status.{counts}
 use Rattle.model.specs.FourCounts.{OfValid}
 use Rattle.model.specs.Extents.{IsExtent}
 use Rattle.model.specs.Outcome.{Call, openCall, crashCall, outcome}
-use Rattle.model.specs.Work.{Work, openWork, crashWork, storeWork, commitWork, changeWork, bearing, setsAside, isPlain, works, someWork}
+use Rattle.model.specs.Work.{Work, openWork, crashWork, storeWork, commitWork, changeWork, bearing, works, someWork}
 
 -- ---- what a slot can have
 
@@ -138,7 +138,7 @@ changesReservation s openWork pending = true
 changesReservation s crashWork pending = true
 changesReservation s storeWork pending = false
 changesReservation s (commitWork t) pending = false
-changesReservation s (changeWork t change) pending = eqb t s && not (isPlain (bearing change))
+changesReservation s (changeWork t change) pending = eqb t s && bearing change .alters
 
 -- no other call does: none that is refused, none of another slot, no commit and none of its stores
 abbrev pub ReservationStays : Type 0
@@ -165,7 +165,7 @@ changesTogether s openWork pending = true
 changesTogether s crashWork pending = true
 changesTogether s storeWork pending = isCommitOf s pending
 changesTogether s (commitWork t) pending = eqb t s
-changesTogether s (changeWork t change) pending = eqb t s && setsAside (bearing change)
+changesTogether s (changeWork t change) pending = eqb t s && bearing change .setsAside
 
 -- no other call does: what a grant takes from the one it adds to the other, and a drop or revoke puts it back
 abbrev pub TogetherStays : Type 0

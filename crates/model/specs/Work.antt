@@ -107,10 +107,24 @@ unfoldable pub someWork : (Work → Pending → Bool) → List Work → Memory �
 someWork test [] memory disk = false
 someWork test (new ∷ rest) memory disk = test new (memory .pending) || someWork test rest (worked new memory disk) (workedDisk new memory disk)
 
--- how a change bears on cursor and reserves: not at all, or it grants blocks, gives an open or a precommitted transaction up, or sets a
--- reservation
-pub data Bearing : Type 0 where
-  plain granting dropping revoking settingAside : Bearing
+-- how a change bears on cursor and reserves: it grants blocks, which moves the cursor; it alters the slot's reserve; it sets a reservation; it
+-- gives a precommitted transaction up
+pub record Bearing : Type 0 where
+  pub grants : Bool
+  pub alters : Bool
+  pub setsAside : Bool
+  pub revokes : Bool
+
+abbrev pub plain : Bearing
+plain = record { grants = false; alters = false; setsAside = false; revokes = false }
+abbrev pub granting : Bearing
+granting = record { grants = true; alters = true; setsAside = false; revokes = false }
+abbrev pub dropping : Bearing
+dropping = record { grants = false; alters = true; setsAside = false; revokes = false }
+abbrev pub revoking : Bearing
+revoking = record { grants = false; alters = true; setsAside = false; revokes = true }
+abbrev pub settingAside : Bearing
+settingAside = record { grants = false; alters = true; setsAside = true; revokes = false }
 
 unfoldable pub bearing : Change → Bearing
 bearing startChange = plain
@@ -120,35 +134,6 @@ bearing revokeChange = revoking
 bearing (grantChange blocks) = granting
 bearing (freeChange block) = plain
 bearing (reserveChange reservation) = settingAside
-
--- and which of them
-abbrev pub grants : Bearing → Bool
-grants plain = false
-grants granting = true
-grants dropping = false
-grants revoking = false
-grants settingAside = false
-
-abbrev pub revokes : Bearing → Bool
-revokes plain = false
-revokes granting = false
-revokes dropping = false
-revokes revoking = true
-revokes settingAside = false
-
-abbrev pub setsAside : Bearing → Bool
-setsAside plain = false
-setsAside granting = false
-setsAside dropping = false
-setsAside revoking = false
-setsAside settingAside = true
-
-abbrev pub isPlain : Bearing → Bool
-isPlain plain = true
-isPlain granting = false
-isPlain dropping = false
-isPlain revoking = false
-isPlain settingAside = false
 
 -- how many blocks a change touches at most: a grant as many as it has, a free one
 unfoldable pub blocksTouched : Change → ℕ

@@ -15,7 +15,7 @@ use Rattle.model.specs.Calls.Start.{started}
 use Rattle.model.specs.Calls.Allocate.{taking}
 use Rattle.model.specs.Calls.Deallocate.{freeing}
 use Rattle.model.specs.Calls.Precommit.{precommitting}
-use Rattle.model.specs.Work.{Change, startChange, precommitChange, dropChange, revokeChange, grantChange, freeChange, reserveChange, Bearing, plain, granting, dropping, revoking, settingAside, bearing, grants, setsAside, isPlain, changed}
+use Rattle.model.specs.Work.{Change, startChange, precommitChange, dropChange, revokeChange, grantChange, freeChange, reserveChange, Bearing, plain, granting, dropping, revoking, settingAside, bearing, changed}
 
 -- of as many values, only the one at s may differ
 pub record OnlyAt {A : Type 0} (default : A) (s : ℕ) (new old : List A) : Type 0 where
@@ -36,9 +36,9 @@ pub record Frame (memory after : Memory) (s : ℕ) (bears : Bearing) : Type 0 wh
   pub pending : after .pending ≡ memory .pending
   pub slots : OnlyAt idleSlot s (after .slots) (memory .slots)
   pub reserves : OnlyAt noReserve s (after .reserves) (memory .reserves)
-  pub cursor : grants bears ≡ false → after .cursor ≡ memory .cursor
-  pub own : not (isPlain bears) ≡ false → reserveAt after s ≡ reserveAt memory s
-  pub sum : setsAside bears ≡ false → together after s ≡ together memory s
+  pub cursor : bears .grants ≡ false → after .cursor ≡ memory .cursor
+  pub own : bears .alters ≡ false → reserveAt after s ≡ reserveAt memory s
+  pub sum : bears .setsAside ≡ false → together after s ≡ together memory s
 
 -- where the reserve of slot s changes and its parts are as many together
 sum-set : (reserves : List Reserve) (s : ℕ) (new : Reserve)
@@ -65,11 +65,11 @@ module _ (memory : Memory) (s : ℕ) where
       }
 
   -- the reserve does too, to as much together or not
-  with-reserve : (bears : Bearing) → not (isPlain bears) ≡ true
+  with-reserve : (bears : Bearing) → bears .alters ≡ true
       → (slots : List Slot) → OnlyAt idleSlot s slots (memory .slots)
-      → (cursor : ℕ) → (grants bears ≡ false → cursor ≡ memory .cursor)
+      → (cursor : ℕ) → (bears .grants ≡ false → cursor ≡ memory .cursor)
       → («com» : Bitmap) (reserve : Reserve)
-      → (setsAside bears ≡ false → reserve .reservation + reserve .drawn ≡ together memory s)
+      → (bears .setsAside ≡ false → reserve .reservation + reserve .drawn ≡ together memory s)
       → Frame memory (withReserves (withCursor (withSlots (withCom memory «com») slots) cursor) (set (memory .reserves) s reserve)) s bears
   with-reserve bears alters slots only cursor stays «com» reserve same =
       record {
@@ -84,7 +84,7 @@ module _ (memory : Memory) (s : ℕ) where
       }
 
   -- a rollback, of an open transaction or a precommitted one
-  given-up : (bears : Bearing) → not (isPlain bears) ≡ true → Frame memory (rolledBack memory s) s bears
+  given-up : (bears : Bearing) → bears .alters ≡ true → Frame memory (rolledBack memory s) s bears
   unfolding rolledBack putBack
   given-up bears alters = with-reserve bears alters _ (only-set idleSlot s (memory .slots) _) (memory .cursor) (λ _. refl) _ _ (λ _. omega arith)
 

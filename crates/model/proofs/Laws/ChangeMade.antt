@@ -7,7 +7,7 @@ use lib.ListN.{length}
 use lib.Dec.{eqb}
 use Rattle.model.specs.Types.{Precommitted, Nothing, Memory}
 use Rattle.model_types.specs.Memory.{slotAt, isActive, isPrecommitted}
-use Rattle.model.specs.Work.{Change, startChange, precommitChange, dropChange, revokeChange, grantChange, freeChange, reserveChange, bearing, revokes, blocksTouched, changed}
+use Rattle.model.specs.Work.{Change, startChange, precommitChange, dropChange, revokeChange, grantChange, freeChange, reserveChange, bearing, blocksTouched, changed}
 use Rattle.model.proofs.Laws.Accepted.{Ready}
 use Rattle.model.proofs.Laws.Valid.{ValidParts}
 use Rattle.model.proofs.Laws.Untouched.{started-valid, precommitted-valid, reserving-valid}
@@ -19,14 +19,14 @@ use Rattle.model.proofs.Laws.Work.{ChangeMade}
 pub record Leaves (change : Change) (memory : Memory) (s : ℕ) : Type 0 where
   pub valid : ValidParts (changed change memory s)
   pub touches : (t : ℕ) → Touches memory (changed change memory s) t (cond (eqb s t) (blocksTouched change) 0)
-  pub spares : slotAt memory s .state ≡ Precommitted → revokes (bearing change) ≡ true
+  pub spares : slotAt memory s .state ≡ Precommitted → bearing change .revokes ≡ true
 
 module _ (memory : Memory) (parts : ValidParts memory) (s : ℕ) (ready : Ready memory s) (h : s < length (memory .slots)) where
   abbrev Told : Change → Type 0
   Told change =
       ValidParts (changed change memory s)
       × ((t : ℕ) → Touches memory (changed change memory s) t (cond (eqb s t) (blocksTouched change) 0))
-      × (slotAt memory s .state ≡ Precommitted → revokes (bearing change) ≡ true)
+      × (slotAt memory s .state ≡ Precommitted → bearing change .revokes ≡ true)
 
   -- a slot that isn't active, or isn't precommitted
   idle-else : {t : Bool} → isActive (slotAt memory s .state) ≡ false → slotAt memory s .state ≡ Precommitted → t ≡ true

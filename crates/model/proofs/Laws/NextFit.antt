@@ -3,12 +3,11 @@ use Prim.Native.Nat.{ℕ, _+_, _-_, _≤_, _<_, zero-le}
 use native.Mathlib.Numerals.{add-one}
 use native.Mathlib.Omega.{arith}
 use mathlib.Core.Path.{_≡_, refl, sym, ap, ap₂, _∙_}
-use mathlib.Core.Bool.{Bool, true, false, cond, true≢false}
+use mathlib.Core.Bool.{true, true≢false}
 use mathlib.Core.Option.{Option, none, some}
 use mathlib.Core.List.{List, _++_}
 use lib.ListN.{length, getD, take, drop, length-take, List·getD-append}
 use lib.Seq.{length-front, length-take-le, getD-take, take-at, take-add}
-use lib.Dec.{eqb}
 use borrow.Author.Tests.{lt-ltb, le-ltb}
 use Rattle.bitmap.specs.Sizes.{maxBlocks}
 use Rattle.bitmap.specs.Blocks.{from, availableBlocks, member}
@@ -21,16 +20,15 @@ use Rattle.model_types.specs.Answers.{granted}
 use Rattle.model_types.specs.Memory.{zeroMemory}
 use Rattle.model.specs.First.{unlessRefused}
 use Rattle.model.specs.Available.{available}
-use Rattle.model.specs.Commit.{changedOf, committed}
+use Rattle.model.specs.Commit.{committed}
 use Rattle.model.specs.Calls.Opening.{openError, opened, openMemory}
 use Rattle.model.specs.Calls.Allocate.{allocateError, met, firstMet, taking, allocateAnswer, allocateMemory, allocateList}
 use Rattle.model.specs.Calls.AllocateExtent.{allocateExtentError, nearestExtent, allocateExtentAnswer, allocateExtentMemory}
-use Rattle.model.specs.Calls.Committing.{committing}
 use Rattle.model.specs.Outcome.{outcome}
 use Rattle.model.specs.Work.{Work, openWork, crashWork, storeWork, commitWork, changeWork, worked}
 use Rattle.model.proofs.Laws.Work.{Fails, by-failing}
 use Rattle.model.proofs.Laws.Change.{change-frame}
-use Rattle.model.proofs.Laws.Progress.{by-finish, by-store}
+use Rattle.model.proofs.Laws.Progress.{by-finish, by-store, by-commit}
 use Rattle.model.specs.NextFit.{AvailableBlock, ahead, ListsMet, ListsFirstMet, AnswersFirstMet, CutRotation, ListsRotation, LowestFromZero, Behind, CursorBehindLast, CursorBehindExtent, CarriesOn, CursorAnew, movesCursor, CursorStays}
 use Rattle.model.proofs.Laws.Answered.{grant-answered}
 use Rattle.model.proofs.Laws.Accepted.{AllocateAccepted, allocate-accepted, allocate-extent-accepted}
@@ -245,11 +243,6 @@ carries-on memory s count list b answered t more other c next =
 
 -- ---- the calls
 
--- whichever of two memories is left, the cursor is where both have it
-one-of : (t : Bool) (a b : Memory) (p : ℕ) → a .cursor ≡ p → b .cursor ≡ p → cond t a b .cursor ≡ p
-one-of true a b p e f = e
-one-of false a b p e f = f
-
 left : (error : Option Error) (new old : Memory) (p : ℕ) → new .cursor ≡ p → old .cursor ≡ p → unlessRefused error new old .cursor ≡ p
 unfolding unlessRefused
 left none new old p e f = e
@@ -262,13 +255,13 @@ cursor-anew memory disk = (left (openError disk) (opened disk) zeroMemory 0 refl
 
 -- work by work
 cursor-worked : (new : Work) (memory : Memory) (disk : List ℕ) → Fails movesCursor new memory → worked new memory disk .cursor ≡ memory .cursor
-unfolding movesCursor worked committing committed
+unfolding movesCursor worked committed
 cursor-worked openWork memory disk e = absurd (true≢false e)
 cursor-worked crashWork memory disk e = absurd (true≢false e)
 cursor-worked storeWork memory disk e =
     let Same : Memory → Type 0 = λ m. m .cursor ≡ memory .cursor in
     by-store Same memory (memory .pending) (by-finish Same memory refl refl (memory .pending) (λ _ _ _ _. refl)) refl
-cursor-worked (commitWork s) memory disk e = one-of (eqb (changedOf memory s) 0) _ _ (memory .cursor) refl refl
+cursor-worked (commitWork s) memory disk e = by-commit (λ m. m .cursor ≡ memory .cursor) memory s refl refl
 cursor-worked (changeWork s change) memory disk e = change-frame memory s change .cursor e
 
 pub cursor-stays : CursorStays

@@ -8,10 +8,16 @@ use lib.Dec.{eqb}
 use Rattle.model.specs.Types.{Pending, Nothing, Commit, Recovery, Memory}
 use Rattle.model_types.specs.Memory.{withPending}
 use Rattle.model_types.specs.Pending.{isNothing}
-use Rattle.model.specs.Commit.{committedSam, refreshed, committed}
+use Rattle.model.specs.Commit.{committedSam, changedOf, commitDue, refreshed, committed}
 use Rattle.model.specs.Pending.{storesDone, storesDue, oneMoreDone, finished, storesLeft}
 use Rattle.model.specs.Reservations.{isCommitOf}
+use Rattle.model.specs.Calls.Committing.{committing}
 use Rattle.model.specs.Calls.Storing.{advanced}
+
+-- what holds of both holds of whichever it is
+pub either : {A : Type 0} (P : A → Type 0) (t : Bool) {x y : A} → P x → P y → P (cond t x y)
+either P true p q = p
+either P false p q = q
 
 -- ---- one more store
 
@@ -63,8 +69,8 @@ finished-later memory Nothing n = absurd (true≢false n)
 finished-later memory (Commit s done due) n = refl
 finished-later memory (Recovery done due) n = refl
 
--- what holds of the memory with nothing pending, and of the one that a pending commit makes, holds then; and after the next store,
--- where it holds with one more done
+-- what holds of the memory with nothing pending, and of the one that a pending commit makes, holds then; after the next store, where it
+-- holds with one more done; and after a commit, which ends at once or begins
 module _ (P : Memory → Type 0) (memory : Memory) where
   pub by-finish : P memory → P (withPending memory Nothing) → (p : Pending) → ((t done due : ℕ) → p ≡ Commit t done due → P (committed memory t))
       → P (finished memory p)
@@ -75,8 +81,8 @@ module _ (P : Memory → Type 0) (memory : Memory) where
 
   pub by-store : (p : Pending) → P (finished memory p) → P (withPending memory (oneMoreDone p)) → P (advanced memory p)
   unfolding advanced
-  by-store p last more = go (eqb (storesDone p + 1) (storesDue p))
-    where
-      go : (t : Bool) → P (cond t (finished memory p) (withPending memory (oneMoreDone p)))
-      go true = last
-      go false = more
+  by-store p last more = either P (eqb (storesDone p + 1) (storesDue p)) last more
+
+  pub by-commit : (s : ℕ) → P (committed memory s) → P (withPending memory (Commit s 0 (commitDue memory s))) → P (committing memory s)
+  unfolding committing
+  by-commit s ended begun = either P (eqb (changedOf memory s) 0) ended begun

@@ -2,7 +2,7 @@
 -- stay (specs/Reservations.antt).
 use Prim.Native.Nat.{ℕ, zero, suc, _+_}
 use mathlib.Core.Path.{_≡_, refl, sym, ap, _∙_, subst}
-use mathlib.Core.Bool.{Bool, true, false, not, cond, _&&_, true≢false}
+use mathlib.Core.Bool.{Bool, true, false, _&&_, true≢false}
 use mathlib.Core.Option.{Option, none, some}
 use mathlib.Core.List.{List, [], _∷_}
 use lib.ListN.{length, getD, set, length-set}
@@ -14,33 +14,28 @@ use Rattle.model.specs.Types.{Error, Commit, Reserve, Memory}
 use Rattle.model_types.specs.Memory.{reserveAt, noReserve, noReserves, zeroMemory}
 use Rattle.model.specs.First.{unlessRefused}
 use Rattle.model.specs.Reserves.{usedUp}
-use Rattle.model.specs.Commit.{changedOf, committed}
+use Rattle.model.specs.Commit.{committed}
 use Rattle.model.specs.Calls.Opening.{openError, opened, openMemory}
 use Rattle.model.specs.Calls.Committing.{committing}
 use Rattle.model.specs.Calls.Storing.{advanced}
 use Rattle.model.specs.Outcome.{outcome}
-use Rattle.model.specs.Work.{Change, Work, openWork, crashWork, storeWork, commitWork, changeWork, bearing, setsAside, isPlain, changed, worked}
+use Rattle.model.specs.Work.{Change, Work, openWork, crashWork, storeWork, commitWork, changeWork, bearing, changed, worked}
 use Rattle.model.specs.Reservations.{ReservationsWiped, changesReservation, ReservationStays, together, isCommitOf, changesTogether, TogetherStays}
 use Rattle.model.proofs.Laws.Work.{Fails, by-failing}
 use Rattle.model.proofs.Laws.Change.{change-frame}
-use Rattle.model.proofs.Laws.Progress.{by-finish, by-store}
+use Rattle.model.proofs.Laws.Progress.{by-finish, by-store, by-commit}
 
 -- ---- what holds of the reserves
 
 module _ (P : List Reserve → Type 0) (memory : Memory) (old : P (memory .reserves)) where
-  -- whichever of two memories is left
-  one-kept : (t : Bool) (a b : Memory) → P (a .reserves) → P (b .reserves) → P (cond t a b .reserves)
-  one-kept true a b p q = p
-  one-kept false a b p q = q
-
   -- where a commit of slot t ends, what that slot has drawn is used up
   abbrev UsedUp : ℕ → Type 0
   UsedUp t = P (set (memory .reserves) t (usedUp (reserveAt memory t)))
 
   -- it may end with its call, and with a store
   commit-kept : (t : ℕ) → UsedUp t → P (committing memory t .reserves)
-  unfolding committing committed
-  commit-kept t used = one-kept (eqb (changedOf memory t) 0) _ _ used old
+  unfolding committed
+  commit-kept t used = by-commit (λ m. P (m .reserves)) memory t used old
 
   store-kept : ((t done due : ℕ) → memory .pending ≡ Commit t done due → UsedUp t) → P (advanced memory (memory .pending) .reserves)
   unfolding committed
@@ -94,7 +89,7 @@ module _ (s : ℕ) (memory : Memory) where
   used-up t = used-up-same (memory .reserves) t s
 
   -- a change of slot t
-  changed-same : (t : ℕ) (change : Change) (own : Bool) → eqb t s ≡ own → (own && not (isPlain (bearing change))) ≡ false
+  changed-same : (t : ℕ) (change : Change) (own : Bool) → eqb t s ≡ own → (own && bearing change .alters) ≡ false
       → Same (changed change memory t .reserves)
   changed-same t change true q e =
       ap (λ (x : Reserve). x .reservation)
@@ -127,7 +122,7 @@ module _ (s : ℕ) (memory : Memory) where
       (getD-set-other (memory .reserves) t s reserve noReserve (λ e. eqb-false t s other (sym e)))
 
   -- a change of slot t
-  changed-sum : (t : ℕ) (change : Change) (own : Bool) → eqb t s ≡ own → (own && setsAside (bearing change)) ≡ false → SameSum (changed change memory t .reserves)
+  changed-sum : (t : ℕ) (change : Change) (own : Bool) → eqb t s ≡ own → (own && bearing change .setsAside) ≡ false → SameSum (changed change memory t .reserves)
   changed-sum t change true q e =
       subst (λ (x : ℕ). together (changed change memory t) x ≡ together memory x) (eqb-true t s q) (change-frame memory t change .sum e)
   changed-sum t change false q e =
