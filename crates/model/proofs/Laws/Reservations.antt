@@ -4,7 +4,7 @@ use Prim.Native.Nat.{ℕ, zero, suc, _+_, _≤_, _<_}
 use native.Mathlib.Nat.{le-refl}
 use native.Mathlib.Omega.{arith}
 use mathlib.Core.Path.{_≡_, refl, ap, _∙_}
-use mathlib.Core.Bool.{true, cond}
+use mathlib.Core.Bool.{Bool, true, false, cond}
 use mathlib.Core.Option.{Option, none, some}
 use mathlib.Core.List.{List, [], _∷_}
 use lib.ListN.{length, getD, set}
@@ -12,7 +12,7 @@ use lib.Seq.{getD-set-same}
 use lib.Dec.{ltb}
 use borrow.Author.Tests.{lt-ltb, le-ltb}
 use Rattle.bitmap.specs.Sizes.{slotCount, slotInRange}
-use Rattle.model.specs.Types.{Error, SlotState, Idle, Open, Precommitted, Pending, Nothing, Commit, Recovery, Reserve, Memory, GrantAnswer, WorkPending, SlotBusy, OverReserved}
+use Rattle.model.specs.Types.{Error, SlotState, Idle, Open, Precommitted, Nothing, Reserve, Memory, GrantAnswer, WorkPending, SlotBusy, OverReserved}
 use Rattle.model_types.specs.Answers.{done, granted}
 use Rattle.model_types.specs.Memory.{slotAt, reserveAt, noReserve, isActive}
 use Rattle.model_types.specs.Pending.{isNothing}
@@ -32,6 +32,7 @@ use Rattle.model.specs.Calls.Reserve.{reserveError, reserveAnswer, reser
 use Rattle.model.specs.Calls.Status.{counts}
 use Rattle.model.specs.Reservations.{MayAsk, MayAlwaysAllocate, ReservationsFit, IdleDrawsNone, ReserveAnswers, ReserveSets, Draws, GrantDraws, RollbackNeverLowers}
 use Rattle.model.proofs.Laws.First.{cause-holds, cause-passed, no-cause, some-append, none-append}
+use Rattle.model.proofs.Laws.Accepted.{is-nothing}
 use Rattle.model.proofs.Laws.Answered.{done-answered, grant-answered}
 use Rattle.model.proofs.Laws.Reserves.{total-set}
 use Rattle.model.proofs.Laws.Valid.{valid-parts}
@@ -69,18 +70,19 @@ module _ (memory : Memory) (is-valid : valid memory ≡ true) (s count : ℕ) (l
       (omega (arith, asks .reserved, both-fit memory is-valid s))
 
   -- 8 refuses it, whatever is pending
-  is-delayed : (pending : Pending) → memory .pending ≡ pending → (pending ≡ Nothing → ⊥)
-      → allocateAnswer memory s count list ≡ GrantAnswer.Refused WorkPending
-  unfolding allocateAnswer allocateError granted first firstOr memoryInvalid workPending nothingPending isNothing
-  is-delayed Nothing e some-work = absurd (some-work refl)
-  is-delayed (Commit t done due) e some-work = rw (is-valid, e)
-  is-delayed (Recovery done due) e some-work = rw (is-valid, e)
+  is-delayed : (memory .pending ≡ Nothing → ⊥) → allocateAnswer memory s count list ≡ GrantAnswer.Refused WorkPending
+  unfolding allocateAnswer allocateError granted first firstOr memoryInvalid workPending nothingPending
+  is-delayed some-work = go (isNothing (memory .pending)) refl
+    where
+      go : (t : Bool) → isNothing (memory .pending) ≡ t → allocateAnswer memory s count list ≡ GrantAnswer.Refused WorkPending
+      go true e = absurd (some-work (is-nothing (memory .pending) e))
+      go false e = rw (is-valid, e)
 
 pub may-always-allocate : MayAlwaysAllocate
 may-always-allocate memory is-valid s count list asks =
     record {
       granted = is-granted memory is-valid s count list asks;
-      delayed = is-delayed memory is-valid s count list asks (memory .pending) refl;
+      delayed = is-delayed memory is-valid s count list asks;
     }
 
 -- ---- reserve
