@@ -12,20 +12,20 @@ use Rattle.model_types.specs.declared.memory.Pending.{Pending}
 use Rattle.model_types.specs.declared.memory.Pending.the-variants.{Nothing, Commit}
 use Rattle.model_types.specs.Memory.{slotAt}
 use Rattle.model.specs.Commit.{commitDue, committed}
-use Rattle.model.specs.Pending.{oneMoreDone}
+use Rattle.model.specs.Pending.{oneMoreDone, finished, begun}
 use Rattle.model.specs.Valid.{pendingValid}
 use Rattle.model.specs.Calls.Format.{formatDisk}
-use Rattle.model.specs.Calls.Committing.{commitError, commitAnswer}
+use Rattle.model.specs.Calls.Committing.{commitError, committing, commitAnswer}
 use Rattle.model.specs.Touched.{touchedBlocks}
 use Rattle.model.specs.Calls.CommitCost.{commitCostError, costFor, commitCost, commitCostAnswer}
 use Rattle.model.proofs.Laws.Valid.{ValidParts, valid-parts}
 use Rattle.model.proofs.Laws.ChangeMade.{change-leaves}
-use Rattle.model.proofs.Laws.Progress.{by-finish, by-store, by-commit}
+use Rattle.model.proofs.Laws.Progress.{by-finish, by-store, by-begin}
 use Rattle.model.proofs.Laws.Pending.{commit-parts, precommitted-active, precommitted-below}
 use Rattle.model.proofs.Laws.Accepted.{Ready, CommitAccepted, commit-accepted, CommitCostAccepted, commit-cost-accepted}
 use Rattle.model.specs.Outcome.{Call}
-use Rattle.model.specs.Work.{Work, openWork, crashWork, storeWork, commitWork, changeWork, worked}
-use Rattle.model.proofs.Laws.Work.{EachWork, each-fails, Fails, Made, SomeMade, calls-made}
+use Rattle.model.specs.Work.{Work, openWork, crashWork, storeWork, beginWork, changeWork, worked}
+use Rattle.model.proofs.Laws.Work.{EachWork, each-fails, Fails, by-begun, Made, SomeMade, calls-made}
 use Rattle.crash_safety.specs.World.{World, run, begin, Without}
 use Rattle.crash_safety.specs.InOrder.{InUse}
 use Rattle.crash_safety.specs.CommitCost.{touchesFor, touchesOf, touchesIn, endsUse, CommitCostKeptInUse, CommitCostHolds}
@@ -55,6 +55,11 @@ module _ (memory : Memory) (s : ℕ) (eight : length (memory .slots) ≡ slotCou
       committed-touches memory s t parts (omega (arith, eight, precommitted-below memory t eight precommitted))
       (precommitted-active (slotAt memory t .state) precommitted)
 
+  -- or ends at once
+  commit-ends : (t done due : ℕ) → CommitAccepted memory t → committing memory t ≡ begun memory (Commit t done due) → None (finished memory (Commit t done due))
+  unfolding finished
+  commit-ends t done due a e = committed-touches memory s t parts (there t (a .ready)) (a .active)
+
   work-touches : (call : Call) (disk : List ℕ) (new : Work) → Made call new memory disk → Fails endsUse new memory
       → Touches memory (worked new memory disk) s (touchesFor s new)
   unfolding endsUse worked touchesFor
@@ -64,9 +69,8 @@ module _ (memory : Memory) (s : ℕ) (eight : length (memory .slots) ≡ slotCou
       by-store None memory (memory .pending)
       (by-finish None memory (record { few = omega arith; volume = refl }) (pending-touches memory s Nothing) (memory .pending) commit-touches)
       (pending-touches memory s (oneMoreDone (memory .pending)))
-  work-touches call disk (commitWork t) a f =
-      by-commit None memory t
-      (committed-touches memory s t parts (there t (a .ready)) (a .active)) (pending-touches memory s (Commit t 0 (commitDue memory t)))
+  work-touches call disk (beginWork new) m f =
+      by-begin None memory new (by-begun (λ p. None (finished memory p)) memory commit-ends new m) (pending-touches memory s new)
   work-touches call disk (changeWork t change) m f = change-leaves memory parts t (m .0) (there t (m .0)) change (m .1) .touches s
 
 -- ---- a list of works

@@ -20,9 +20,9 @@ use Rattle.model_types.specs.Memory.{withPending, idleSlot}
 use Rattle.model_types.specs.Pending.{isNothing}
 use Rattle.model_types.specs.Answers.{due, storesNumber}
 use Rattle.model.specs.First.{unlessRefused}
-use Rattle.model.specs.Stores.{Store, writes, commitStores}
-use Rattle.model.specs.Commit.{committedSam, entriesOf, changedOf, commitDue, refreshed, committed}
-use Rattle.model.specs.Pending.{storesDone, storesDue, oneMoreDone, finished, storesLeft}
+use Rattle.model.specs.Stores.{Store, writes}
+use Rattle.model.specs.Commit.{committedSam, commitDue, refreshed, committed}
+use Rattle.model.specs.Pending.{storesDone, storesDue, oneMoreDone, finished, begun, storesLeft}
 use Rattle.model.specs.Valid.{pendingValid}
 use Rattle.model.specs.Disk.{dueStores}
 use Rattle.model.specs.Calls.Committing.{commitError, committing, commitAnswer, commitMemory}
@@ -34,7 +34,7 @@ use Rattle.model.proofs.Laws.Valid.{valid-parts}
 use Rattle.model.proofs.Laws.Pending.{unfinished}
 use Rattle.model.proofs.Laws.Committed.{committed-bitmap}
 use Rattle.model.proofs.Laws.DueStores.{due-length}
-use Rattle.model.proofs.Laws.Progress.{some-left, one-fewer, finished-pending, by-finish, by-store, by-commit}
+use Rattle.model.proofs.Laws.Progress.{some-left, one-fewer, finished-pending, committing-begun, begun-finished, begun-left, by-finish, by-store, by-begin}
 use Rattle.model.proofs.Laws.Stored.{stored-memory, stored-disk, stored-is}
 use Rattle.crash_safety.specs.World.{World, step, run}
 use Rattle.crash_safety.specs.InOrder.{Consistent, InUse, Completes}
@@ -97,11 +97,15 @@ committed-shaped memory s shaped =
 pending-shaped : (memory : Memory) (pending : Pending) → Shaped memory → Shaped (withPending memory pending)
 pending-shaped memory pending shaped = record { slots = shaped .slots; sam = shaped .sam }
 
-advanced-shaped : (memory : Memory) → Shaped memory → Shaped (advanced memory (memory .pending))
-advanced-shaped memory shaped =
-    let p : Pending = memory .pending in
-    by-store Shaped memory p (by-finish Shaped memory shaped (pending-shaped memory Nothing shaped) p (λ t _ _ _. committed-shaped memory t shaped))
-    (pending-shaped memory (oneMoreDone p) shaped)
+module _ (memory : Memory) (shaped : Shaped memory) where
+  finished-shaped : (p : Pending) → Shaped (finished memory p)
+  finished-shaped p = by-finish Shaped memory shaped (pending-shaped memory Nothing shaped) p (λ t _ _ _. committed-shaped memory t shaped)
+
+  advanced-shaped : (p : Pending) → Shaped (advanced memory p)
+  advanced-shaped p = by-store Shaped memory p (finished-shaped p) (pending-shaped memory (oneMoreDone p) shaped)
+
+  begun-shaped : (p : Pending) → Shaped (begun memory p)
+  begun-shaped p = by-begin Shaped memory p (finished-shaped p) (pending-shaped memory p shaped)
 
 -- in order, a store is refused only where nothing is pending
 store-passes : (memory : Memory) (disk : List ℕ) → Consistent memory disk → isNothing (memory .pending) ≡ false → StoreAccepted memory disk
@@ -122,7 +126,7 @@ ends (suc n) memory disk shaped c e =
     let next : Consistent (storeMemory memory disk) (storeDisk memory disk) =
     subst₂ Consistent (sym memory-is) (sym (stored-disk memory disk a)) (store-consistent memory disk (shaped .slots) (shaped .sam) c a) in
     let rest =
-    ends n (storeMemory memory disk) (storeDisk memory disk) (subst Shaped (sym memory-is) (advanced-shaped memory shaped)) next
+    ends n (storeMemory memory disk) (storeDisk memory disk) (subst Shaped (sym memory-is) (advanced-shaped memory shaped (memory .pending))) next
     (ap (λ (m : Memory). storesLeft (m .pending)) memory-is ∙ store-left memory (memory .pending) n e) in
     record { accepted = (accepted-store memory disk a, rest .accepted); consistent = rest .consistent; ended = rest .ended }
 
@@ -157,60 +161,60 @@ finishes memory disk shaped c =
     all : take (storesLeft p) (drop (storesDone p) (dueStores memory disk p)) ≡ drop (storesDone p) (dueStores memory disk p)
     all = take-all (storesLeft p) (drop (storesDone p) (dueStores memory disk p)) (few-left memory disk c)
 
+-- ---- work that begins
+
+-- every store of it is accepted, and then the memory is what its last one makes, at once where it has none
+pub record BegunFinishes (memory : Memory) (disk : List ℕ) (new : Pending) : Type 0 where
+  pub accepted : StoresAccepted (storesDue new) (begun memory new) disk
+  pub leaves : completed (begun memory new) disk .memory ≡ finished memory new
+  pub consistent : Consistent (finished memory new) (completed (begun memory new) disk .disk)
+
+pub begun-finishes : (memory : Memory) (disk : List ℕ) (new : Pending) → isNothing new ≡ false → storesDone new ≡ 0
+    → Shaped memory
+    → Consistent (begun memory new) disk
+    → BegunFinishes memory disk new
+begun-finishes memory disk new some none-done shaped c =
+    let f = finishes (begun memory new) disk (begun-shaped memory shaped new) c in
+    let leaves = f .leaves ∙ begun-finished memory new some in
+    record {
+      accepted = subst (λ (n : ℕ). StoresAccepted n (begun memory new) disk) (begun-left memory new some none-done) (f .completes .accepted);
+      leaves = leaves;
+      consistent = subst (λ (m : Memory). Consistent m (completed (begun memory new) disk .disk)) leaves (f .completes .consistent);
+    }
+
 -- ---- a commit
 
-module _ (memory : Memory) (s : ℕ) where
-  abbrev none-changed : Bool
-  none-changed = eqb (changedOf memory s) 0
+module _ (memory : Memory) (disk : List ℕ) (s : ℕ) where
+  -- where it is accepted every store of it is, and then the memory is the committed one
+  pub record CommitFinishes : Type 0 where
+    pub accepted : StoresAccepted (commitDue memory s) (committing memory s) disk
+    pub leaves : carriedOut (commitCall s) memory disk .memory ≡ committed memory s
+    pub consistent : Consistent (committed memory s) (carriedOut (commitCall s) memory disk .disk)
 
-  committing-shaped : Shaped memory → Shaped (committing memory s)
-  committing-shaped shaped = by-commit Shaped memory s (committed-shaped memory s shaped) (pending-shaped memory _ shaped)
+  abbrev commitOf : Pending
+  commitOf = Commit s 0 (commitDue memory s)
 
-  -- it is finished by what it makes, with stores or without
-  committing-finished : finished (committing memory s) (committing memory s .pending) ≡ committed memory s
-  unfolding committing finished committed committedSam refreshed
-  committing-finished = go none-changed
-    where
-      go : (t : Bool) → (let m : Memory = cond t (committed memory s) (withPending memory (Commit s 0 (commitDue memory s))) in finished m (m .pending)) ≡ committed memory s
-      go true = refl
-      go false = refl
-
-  -- and as many stores are left as it answered
-  committing-left : storesLeft (committing memory s .pending) ≡ commitDue memory s
-  unfolding committing storesLeft storesDone storesDue committed commitDue
-  committing-left = go none-changed (length (commitStores (entriesOf memory s)))
-    where
-      go : (t : Bool) (n : ℕ) → storesLeft (cond t (committed memory s) (withPending memory (Commit s 0 (cond t 0 n))) .pending) ≡ cond t 0 n
-      go true n = refl
-      go false n = omega arith
-
-  commit-carried : (disk : List ℕ) → commitError memory s ≡ none → carriedOut (commitCall s) memory disk ≡ completed (committing memory s) disk
+  commit-carried : commitError memory s ≡ none → carriedOut (commitCall s) memory disk ≡ completed (begun memory commitOf) disk
   unfolding carriedOut outcome commitMemory commitAnswer unlessRefused due
-  commit-carried disk e =
+  commit-carried e =
       ap (λ (x : Option Error).
       cond (eqb (storesNumber (due x (commitDue memory s))) 0)
       (completed (unlessRefused x (committing memory s) memory) disk)
       (record { memory = unlessRefused x (committing memory s) memory; disk = disk })) e
+      ∙ ap (λ (m : Memory). completed m disk) (committing-begun memory s)
 
--- where it is accepted every store of it is, and then the memory is the committed one
-pub record CommitFinishes (memory : Memory) (disk : List ℕ) (s : ℕ) : Type 0 where
-  pub accepted : StoresAccepted (commitDue memory s) (committing memory s) disk
-  pub leaves : carriedOut (commitCall s) memory disk .memory ≡ committed memory s
-  pub consistent : Consistent (committed memory s) (carriedOut (commitCall s) memory disk .disk)
-
-pub commit-finishes : (memory : Memory) (disk : List ℕ) (s : ℕ) → Shaped memory → Consistent memory disk → commitError memory s ≡ none
-    → CommitFinishes memory disk s
-commit-finishes memory disk s shaped c e =
-    let a = commit-accepted memory s e in
-    let begun = commit-consistent memory disk s (shaped .slots) (shaped .sam) c a in
-    let f = finishes (committing memory s) disk (committing-shaped memory s shaped) begun in
-    let out = commit-carried memory s disk e in
-    let leaves = ap (λ (x : State). x .memory) out ∙ f .leaves ∙ committing-finished memory s in
-    record {
-      accepted = subst (λ (n : ℕ). StoresAccepted n (committing memory s) disk) (committing-left memory s) (f .completes .accepted);
-      leaves = leaves;
-      consistent = subst₂ Consistent (sym (ap (λ (x : State). x .memory) out) ∙ leaves) (sym (ap (λ (x : State). x .disk) out)) (f .completes .consistent);
-    }
+  pub commit-finishes : Shaped memory → Consistent memory disk → commitError memory s ≡ none → CommitFinishes
+  unfolding storesDue storesDone isNothing finished
+  commit-finishes shaped c e =
+      let same = committing-begun memory s in
+      let begins = commit-consistent memory disk s (shaped .slots) (shaped .sam) c (commit-accepted memory s e) in
+      let f = begun-finishes memory disk commitOf refl refl shaped (subst (λ (m : Memory). Consistent m disk) same begins) in
+      let out = commit-carried e in
+      record {
+        accepted = subst (λ (m : Memory). StoresAccepted (commitDue memory s) m disk) (sym same) (f .accepted);
+        leaves = ap (λ (x : State). x .memory) out ∙ f .leaves;
+        consistent = subst (Consistent (committed memory s)) (sym (ap (λ (x : State). x .disk) out)) (f .consistent);
+      }
 
 -- ---- in a world
 

@@ -39,7 +39,7 @@ use Rattle.crash_safety.proofs.Holders.{crashed-sets}
 use Rattle.crash_safety.proofs.Keeps.{step-keeps, run-keeps, begins-formatted}
 use Rattle.crash_safety.proofs.Completion.{completes}
 use Rattle.crash_safety.proofs.Theorem.{safe, crash-safe}
-use Rattle.crash_safety.proofs.Recovering.{beginsCommit, crash-settles, run-settled}
+use Rattle.crash_safety.proofs.Recovering.{beginsPending, crash-settles, run-settled}
 
 -- whether an open of this disk finds the block allocated
 abbrev pub found : List ℕ → ℕ → Bool
@@ -130,7 +130,7 @@ module _ (blocks : ℕ) (some-blocks : 1 ≤ blocks) (few : blocks ≤ maxBlocks
 
   -- A second crash inside a recovery is harmless, any number of times: after a crash come opens, stores, crashes and whatever
   -- else but a commit that is accepted, in any number and order, and an open finds the same.
-  pub recovery-again : (later : List Call) → Without beginsCommit later (step crashCall w) → (b : ℕ) → found (run later (step crashCall w) .disk) b ≡ found (w .disk) b
+  pub recovery-again : (later : List Call) → Without beginsPending later (step crashCall w) → (b : ℕ) → found (run later (step crashCall w) .disk) b ≡ found (w .disk) b
   unfolding step
   recovery-again later r b =
       let after : World = step crashCall w in

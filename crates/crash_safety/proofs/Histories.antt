@@ -33,7 +33,7 @@ use Rattle.model.specs.Reserves.{totalReserved, othersReserved, drawing, putBac
 use Rattle.model.specs.Available.{available}
 use Rattle.model.specs.Causes.{memoryInvalid, diskLengthWrong, diskBlocksWrong, diskBitmapWrong, diskLogWrong, diskMismatched, blocksOutOfRange, nothingPending, workPending, slotOutOfRange, slotActive, slotInactive, slotPrecommitted, slotNotPrecommitted, countOutOfRange, countTooLarge, listShort, tooFewAvailable, blockOutOfRange, blockFree, blockFreeing, extentStarts, noExtent, overReserved, reservedForOthers}
 use Rattle.model_types.specs.Pending.{isNothing}
-use Rattle.model.specs.Pending.{storesDone, storesDue, oneMoreDone, newSam, finished}
+use Rattle.model.specs.Pending.{storesDone, storesDue, oneMoreDone, newSam, finished, begun}
 use Rattle.model.specs.Commit.{committedSam, entriesOf, changedOf, commitDue, refreshed, committed}
 use Rattle.model.specs.Disk.{lengthIn, entriesIn, logEntries, entriesValid, wordOneValid, logValid, durable, storesOf, nextDisk, entriesAgree, recoveryMatches, imageMatches, storesMatch, partsMatch, diskMatches}
 use Rattle.model.specs.First.{firstOr, first, unlessRefused}
@@ -49,7 +49,7 @@ use Rattle.model.specs.Reservations.{changesReservation, changesTogether}
 use Rattle.crash_safety.specs.CommitCost.{touchesFor, touchesOf, endsUse}
 use Rattle.crash_safety.specs.RevokeAlone.{endsWaiting}
 use Rattle.crash_safety.specs.Reservations.{settles}
-use Rattle.crash_safety.proofs.Recovering.{beginsCommit}
+use Rattle.crash_safety.proofs.Recovering.{beginsPending}
 use Rattle.crash_safety.proofs.Premises.{worldAfter, passing, list64, three, idleCalls, busyCalls, recovered, cutBehindPoint, pendingCommit, touchedRows, premises, premisesExpected}
 use Rattle.model.proofs.Laws.Rows.{sameRows, rows-same}
 
@@ -367,7 +367,7 @@ expected =
     ∷ []
 
 computed : sameRows (histories ++ premises) (expected ++ premisesExpected) ≡ true
-unfolding sameRows expected histories premises premisesExpected passing three idleCalls busyCalls recovered cutBehindPoint pendingCommit touchedRows worldAfter list64 movesCursor changesReservation changesTogether settles endsWaiting endsUse beginsCommit blocksTouched touchesFor touchesOf changed worked workedDisk works worksIn someWork bearing after shown slotSets follow beforePoint afterPoint retaken reopened borrowed dropped adjoined spared revoked carried setAside lowered crashedTwice grow list storeCalls xor isSet bit wordOf wordsOf bitmapOf noBitsFrom scan from allocatedBlocks isAvailable availableBlocks member allBelow majority done granted due counted commitCostError touchedBlocks costFor commitCost commitCostAnswer allocateError roundFrom wrapped afterLast met firstMet taking allocateAnswer allocateMemory allocateList adjoining isStart starts distance nearer nearestOf nearest extentStarts noExtent allocateExtentError nearestExtent allocateExtentAnswer allocateExtentMemory allocateExtentList commitError committing commitAnswer commitMemory deallocateError freeing deallocateAnswer deallocateMemory formatError formatted formatAnswer formatDisk openError recoveryDue recoveryPending opened openAnswer openMemory precommitError precommitting precommitAnswer precommitMemory dropError dropAnswer dropMemory revokeError revokeAnswer revokeMemory rolledBackCom rolledBack startError started startAnswer startMemory statusError statusCounts statusAnswer allocated activeSlots storeError stillDue advanced nextStored storeAnswer storeMemory storeDisk reserveError reserveAnswer reserveMemory totalReserved othersReserved drawing putBack usedUp reserving memoryInvalid diskLengthWrong diskBlocksWrong diskBitmapWrong diskLogWrong diskMismatched blocksOutOfRange isNothing nothingPending workPending slotOutOfRange slotActive slotInactive slotPrecommitted slotNotPrecommitted countOutOfRange countTooLarge listShort available tooFewAvailable blockOutOfRange blockFree blockFreeing overReserved reservedForOthers committedSam entriesOf changedOf commitDue refreshed committed lengthIn entriesIn logEntries entriesValid logValid durable entriesAgree recoveryMatches diskMatches firstOr first unlessRefused touched outcome storesDone storesDue oneMoreDone finished writes changesFrom logStores checkpointWith journalWith checkpointStores commitStores blocksInRange countInRange slotInRange sameWords allSlots slotValid touches touchesAgree took takenBlocks reservationsFit drawnFit isQuiet pendingValid valid crashedSets crashed hasWord wordsFrom setsWords without takes frees counts commits countsStore stores entered enter enterAll events step run wordOneValid storesOf nextDisk imageMatches storesMatch partsMatch newSam
+unfolding sameRows expected histories premises premisesExpected passing three idleCalls busyCalls recovered cutBehindPoint pendingCommit touchedRows worldAfter list64 movesCursor changesReservation changesTogether settles endsWaiting endsUse beginsPending blocksTouched touchesFor touchesOf changed worked workedDisk works worksIn someWork bearing after shown slotSets follow beforePoint afterPoint retaken reopened borrowed dropped adjoined spared revoked carried setAside lowered crashedTwice grow list storeCalls xor isSet bit wordOf wordsOf bitmapOf noBitsFrom scan from allocatedBlocks isAvailable availableBlocks member allBelow majority done granted due counted commitCostError touchedBlocks costFor commitCost commitCostAnswer allocateError roundFrom wrapped afterLast met firstMet taking allocateAnswer allocateMemory allocateList adjoining isStart starts distance nearer nearestOf nearest extentStarts noExtent allocateExtentError nearestExtent allocateExtentAnswer allocateExtentMemory allocateExtentList commitError committing commitAnswer commitMemory deallocateError freeing deallocateAnswer deallocateMemory formatError formatted formatAnswer formatDisk openError recoveryDue recoveryPending opened openAnswer openMemory precommitError precommitting precommitAnswer precommitMemory dropError dropAnswer dropMemory revokeError revokeAnswer revokeMemory rolledBackCom rolledBack startError started startAnswer startMemory statusError statusCounts statusAnswer allocated activeSlots storeError stillDue advanced nextStored storeAnswer storeMemory storeDisk reserveError reserveAnswer reserveMemory totalReserved othersReserved drawing putBack usedUp reserving memoryInvalid diskLengthWrong diskBlocksWrong diskBitmapWrong diskLogWrong diskMismatched blocksOutOfRange isNothing nothingPending workPending slotOutOfRange slotActive slotInactive slotPrecommitted slotNotPrecommitted countOutOfRange countTooLarge listShort available tooFewAvailable blockOutOfRange blockFree blockFreeing overReserved reservedForOthers committedSam entriesOf changedOf commitDue refreshed committed lengthIn entriesIn logEntries entriesValid logValid durable entriesAgree recoveryMatches diskMatches firstOr first unlessRefused touched outcome storesDone storesDue oneMoreDone finished begun writes changesFrom logStores checkpointWith journalWith checkpointStores commitStores blocksInRange countInRange slotInRange sameWords allSlots slotValid touches touchesAgree took takenBlocks reservationsFit drawnFit isQuiet pendingValid valid crashedSets crashed hasWord wordsFrom setsWords without takes frees counts commits countsStore stores entered enter enterAll events step run wordOneValid storesOf nextDisk imageMatches storesMatch partsMatch newSam
 computed = refl
 
 pub histories-found : histories ++ premises ≡ expected ++ premisesExpected

@@ -12,16 +12,18 @@ use Rattle.bitmap.specs.Bits.{bit}
 use Rattle.bitmap.specs.Blocks.{member}
 use Rattle.bitmap.proofs.Laws.Bits.{bit-empty}
 use Rattle.model_types.specs.declared.error.Error.{Error}
+use Rattle.model_types.specs.declared.memory.Memory.{Memory}
 use Rattle.model_types.specs.declared.memory.Pending.{Pending}
 use Rattle.model_types.specs.Memory.{zeroMemory}
 use Rattle.model.specs.First.{unlessRefused}
+use Rattle.model.specs.Pending.{begun}
 use Rattle.model.specs.Disk.{durable}
-use Rattle.crash_safety.specs.Ledger.{crashed, entered, takers, holders}
+use Rattle.crash_safety.specs.Ledger.{counts, crashed, entered, takers, holders}
 use Rattle.model.specs.Calls.Format.{formatted, formatDisk}
 use Rattle.model.specs.Calls.Opening.{openError}
 use Rattle.model.specs.Outcome.{Call}
-use Rattle.model.specs.Work.{Change, startChange, precommitChange, dropChange, revokeChange, grantChange, freeChange, reserveChange, changed, Work, openWork, crashWork, storeWork, commitWork, changeWork, worked, workedDisk}
-use Rattle.model.proofs.Laws.Work.{ChangeMade, Made, Fails}
+use Rattle.model.specs.Work.{Change, startChange, precommitChange, dropChange, revokeChange, grantChange, freeChange, reserveChange, changed, Work, openWork, crashWork, storeWork, beginWork, changeWork, worked, workedDisk}
+use Rattle.model.proofs.Laws.Work.{ChangeMade, BeginMade, by-begun, Made, Fails}
 use Rattle.crash_safety.specs.World.{World, worldOf, begin, step, run, Without}
 use Rattle.model.proofs.Laws.Accepted.{accepted-format}
 use Rattle.model.proofs.Laws.DiskParts.{blocks-inRange, none-told, diskOf-quiet, quiet-opens}
@@ -37,7 +39,7 @@ use Rattle.crash_safety.proofs.Commit.{commit-keeps}
 use Rattle.crash_safety.proofs.Store.{store-keeps}
 use Rattle.crash_safety.proofs.Reserve.{reserve-keeps}
 use Rattle.crash_safety.proofs.Crash.{zero-invalid, crash-keeps, open-keeps}
-use Rattle.crash_safety.proofs.Works.{alters, changeEntry, told, after, by-call, by-works, by-failing}
+use Rattle.crash_safety.proofs.Works.{alters, changeEntry, beginEntry, told, after, by-call, by-works, by-failing}
 
 -- a change of a slot
 change-keeps : (w : World) (s : ℕ) (change : Change) → Invariant w → ChangeMade change (w .memory) s
@@ -51,13 +53,21 @@ change-keeps w s (grantChange blocks) i g = grant-keeps w s blocks i (g .ready) 
 change-keeps w s (freeChange block) i a = free-keeps w s block i a
 change-keeps w s (reserveChange reservation) i a = reserve-keeps w s reservation i (a .ready)
 
+-- work that begins
+begin-keeps : (w : World) → Invariant w → (new : Pending) → BeginMade new (w .memory)
+    → Invariant (worldOf (begun (w .memory) new) (w .disk) (alters (beginEntry new) (w .ledger)))
+unfolding entered
+begin-keeps w i =
+    by-begun (λ new. Invariant (worldOf (begun (w .memory) new) (w .disk) (alters (beginEntry new) (w .ledger)))) (w .memory)
+    (λ s done due a e. subst (λ (m : Memory). Invariant (worldOf m (w .disk) (counts (w .ledger) s))) e (commit-keeps w s i a))
+
 -- an open is a crash first
 pub work-keeps : (w : World) (call : Call) (new : Work) → Made call new (w .memory) (w .disk) → Invariant w → Invariant (after new w)
 unfolding worked workedDisk told entered
 work-keeps w call openWork m i = open-keeps (worldOf zeroMemory (w .disk) (crashed (w .ledger))) (crash-keeps w i)
 work-keeps w call crashWork m i = crash-keeps w i
 work-keeps w call storeWork m i = store-keeps w i m
-work-keeps w call (commitWork s) m i = commit-keeps w s i m
+work-keeps w call (beginWork new) m i = begin-keeps w i new m
 work-keeps w call (changeWork s change) m i = change-keeps w s change i (m .1)
 
 pub step-keeps : (call : Call) (w : World) → Invariant w → Invariant (step call w)

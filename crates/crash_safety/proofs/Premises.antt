@@ -16,7 +16,7 @@ use Rattle.crash_safety.specs.World.{World, begin, run}
 use Rattle.crash_safety.specs.CommitCost.{touchesIn, endsUse}
 use Rattle.crash_safety.specs.RevokeAlone.{endsWaiting}
 use Rattle.crash_safety.specs.Reservations.{settles}
-use Rattle.crash_safety.proofs.Recovering.{beginsCommit}
+use Rattle.crash_safety.proofs.Recovering.{beginsPending}
 
 -- a world of four blocks after some calls
 unfoldable pub worldAfter : List Call → World
@@ -101,7 +101,7 @@ premises =
     ∷ passing (endsWaiting 1) three busyCalls
     ∷ passing endsUse three idleCalls
     ∷ passing endsUse three busyCalls
-    ∷ passing beginsCommit cutBehindPoint recovered
+    ∷ passing beginsPending cutBehindPoint recovered
     ∷ touchedRows
     ∷ []
 

@@ -3,18 +3,19 @@ use Prim.Native.Nat.{ℕ, _<_}
 use native.Mathlib.Omega.{arith}
 use mathlib.Core.Path.{_≡_, refl, sym, ap, _∙_}
 use mathlib.Core.Bool.{true, false, true≢false}
-use borrow.Author.Tests.{eq-eqb, ne-eqb}
+use borrow.Author.Tests.{ne-eqb}
 use Rattle.bitmap.specs.Sizes.{slotCount}
 use Rattle.model_types.specs.declared.memory.Memory.{Memory}
 use Rattle.model_types.specs.declared.memory.SlotState.the-variants.{Idle}
 use Rattle.model_types.specs.declared.memory.Pending.{Pending}
 use Rattle.model_types.specs.declared.memory.Pending.the-variants.{Nothing, Commit, Recovery}
 use Rattle.model_types.specs.Memory.{slotAt, isPrecommitted, reserveAt}
+use Rattle.model.specs.Pending.{isCommitOf}
 use Rattle.model.specs.Valid.{pendingValid, valid}
 use Rattle.model.specs.Calls.Format.{formatDisk}
 use Rattle.model.specs.Outcome.{Call}
-use Rattle.model.specs.Work.{Work, openWork, crashWork, storeWork, commitWork, changeWork}
-use Rattle.model.specs.Reservations.{together, isCommitOf, changesTogether}
+use Rattle.model.specs.Work.{Work, openWork, crashWork, storeWork, beginWork, changeWork}
+use Rattle.model.specs.Reservations.{together, changesTogether}
 use Rattle.model.proofs.Laws.Reservations.{idle-draws-none}
 use Rattle.model.proofs.Laws.ReservationStays.{together-worked}
 use Rattle.model.proofs.Laws.Work.{Made, Fails}
@@ -38,13 +39,13 @@ unfolding settles changesTogether
 leaves-whole s openWork pending f e = f
 leaves-whole s crashWork pending f e = f
 leaves-whole s storeWork pending f e = e
-leaves-whole s (commitWork t) pending f e = f
+leaves-whole s (beginWork new) pending f e = f
 leaves-whole s (changeWork t change) pending f e = f
 
 -- none of them is a commit of the slot, or a crash
-no-commit : (s : ℕ) (new : Work) (pending : Pending) → settles s new pending ≡ false → new ≡ commitWork s → ⊥
+no-commit : (s : ℕ) (new : Work) (pending : Pending) → settles s new pending ≡ false → (p : Pending) → new ≡ beginWork p → isCommitOf s p ≡ false
 unfolding settles
-no-commit s new pending f e = true≢false (sym (eq-eqb s s refl) ∙ sym (ap (λ (x : Work). settles s x pending) e) ∙ f)
+no-commit s new pending f p e = sym (ap (λ (x : Work). settles s x pending) e) ∙ f
 
 no-crash : (s : ℕ) (new : Work) (pending : Pending) → settles s new pending ≡ false → new ≡ crashWork → ⊥
 unfolding settles

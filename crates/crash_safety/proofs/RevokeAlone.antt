@@ -15,19 +15,18 @@ use Rattle.model_types.specs.declared.memory.Slot.{Slot}
 use Rattle.model_types.specs.declared.memory.Pending.{Pending}
 use Rattle.model_types.specs.declared.memory.Pending.the-variants.{Nothing, Commit, Recovery}
 use Rattle.model_types.specs.Memory.{slotAt, isActive, withPending}
-use Rattle.model.specs.Commit.{committedSam, changedOf, commitDue, refreshed, committed}
-use Rattle.model.specs.Pending.{storesDone, storesDue, oneMoreDone, finished}
-use Rattle.model.specs.Calls.Committing.{committing}
+use Rattle.model.specs.Commit.{committedSam, changedOf, refreshed, committed}
+use Rattle.model.specs.Pending.{storesDone, storesDue, oneMoreDone, finished, begun, isCommitOf}
 use Rattle.model.specs.Calls.Storing.{advanced}
 use Rattle.model.specs.Calls.Format.{formatDisk}
 use Rattle.model.specs.Outcome.{Call}
-use Rattle.model.specs.Work.{Change, bearing, changed, Work, openWork, crashWork, storeWork, commitWork, changeWork, worked, workedDisk}
-use Rattle.model.proofs.Laws.Work.{ChangeMade, Made, Fails}
+use Rattle.model.specs.Work.{Change, bearing, changed, Work, openWork, crashWork, storeWork, beginWork, changeWork, worked, workedDisk}
+use Rattle.model.proofs.Laws.Work.{ChangeMade, by-begun, Made, Fails}
 use Rattle.model.proofs.Laws.Accepted.{Ready}
 use Rattle.model.proofs.Laws.Valid.{valid-parts}
 use Rattle.model.proofs.Laws.Change.{change-frame}
 use Rattle.model.proofs.Laws.ChangeMade.{change-leaves}
-use Rattle.model.proofs.Laws.Progress.{either, by-commit}
+use Rattle.model.proofs.Laws.Progress.{either, by-begin}
 use Rattle.model.proofs.Laws.Committed.{refreshed-at}
 use Rattle.crash_safety.specs.Ledger.{Sets, noSets, Ledger, setsOf, setsWords, withSets, counts, commits, countsStore, stores, entered}
 use Rattle.crash_safety.specs.World.{World, worldOf, begin, run}
@@ -111,10 +110,10 @@ module _ (s : ℕ) (sets : Sets) (w : World) (waits : Waiting s sets w) where
         }
 
     -- it begins, and ends at once where it has no stores
-    committing-waits : (t : ℕ) → (s ≡ t → ⊥) → Waits (committing (w .memory) t)
-    committing-waits t other =
-        by-commit Waits (w .memory) t (committed-waits t other)
-        (pending-waits (Commit t 0 (commitDue (w .memory) t)) (λ _ _ e. other (cc)))
+    begun-waits : (t done due : ℕ) → (s ≡ t → ⊥) → Waits (begun (w .memory) (Commit t done due))
+    unfolding finished
+    begun-waits t done due other =
+        by-begin Waits (w .memory) (Commit t done due) (committed-waits t other) (pending-waits (Commit t done due) (λ _ _ e. other (cc)))
 
     -- the pending work's next store
     advanced-waits : (pending : Pending) → Elsewhere s pending → Waits (advanced (w .memory) pending)
@@ -143,7 +142,9 @@ module _ (s : ℕ) (sets : Sets) (w : World) (waits : Waiting s sets w) where
   work-waits i call storeWork a f =
       let same = stores-same (w .ledger) s (w .memory) (w .memory .pending) (i .related (a .is-valid) .pending) (waits .not-committing) in
       advanced-waits _ _ same (w .memory .pending) (waits .not-committing)
-  work-waits i call (commitWork t) a f = committing-waits _ _ (counts-same (w .ledger) s t) t (λ e. eqb-false t s f (sym e))
+  work-waits i call (beginWork new) m f =
+      by-begun (λ p. isCommitOf s p ≡ false → Waiting s sets (after (beginWork p) w)) (w .memory)
+      (λ t done due _ _ g. begun-waits _ _ (counts-same (w .ledger) s t) t done due (λ e. eqb-false t s g (sym e))) new m f
   work-waits i call (changeWork t change) m f =
       let other = another i t change (eqb t s) refl f (m .0) (m .1) in
       changed-waits _ _ (change-told (w .ledger) t change .others s other) t other change

@@ -11,9 +11,11 @@ use lib.Dec.{eqb}
 use Rattle.model_types.specs.declared.error.Error.{Error}
 use Rattle.model_types.specs.declared.memory.Memory.{Memory}
 use Rattle.model_types.specs.declared.memory.Pending.{Pending}
+use Rattle.model_types.specs.declared.memory.Pending.the-variants.{Nothing, Commit, Recovery}
 use Rattle.model_types.specs.Answers.{granted, grantNumber, grantValue}
 use Rattle.model_types.specs.Errors.{code}
 use Rattle.model.specs.First.{unlessRefused}
+use Rattle.model.specs.Commit.{commitDue}
 use Rattle.model.specs.Calls.Opening.{openError, openAnswer}
 use Rattle.model.specs.Calls.Start.{startAnswer}
 use Rattle.model.specs.Calls.Allocate.{firstMet, allocateError, allocateAnswer, allocateList}
@@ -26,7 +28,7 @@ use Rattle.model.specs.Calls.Revoke.{revokeAnswer}
 use Rattle.model.specs.Calls.Storing.{storeAnswer}
 use Rattle.model.specs.Calls.Reserve.{reserveAnswer}
 use Rattle.model.specs.Outcome.{Call, Outcome, outcome, openCall, startCall, allocateCall, allocateExtentCall, deallocateCall, precommitCall, commitCall, dropCall, revokeCall, storeCall, statusCall, commitCostCall, reserveCall, crashCall}
-use Rattle.model.specs.Work.{Change, startChange, precommitChange, dropChange, revokeChange, grantChange, freeChange, reserveChange, Work, openWork, crashWork, storeWork, commitWork, changeWork, worked, workedDisk, workedAll, works, worksIn}
+use Rattle.model.specs.Work.{Change, startChange, precommitChange, dropChange, revokeChange, grantChange, freeChange, reserveChange, Work, openWork, crashWork, storeWork, beginWork, changeWork, worked, workedDisk, workedAll, works, worksIn}
 use Rattle.model.proofs.Laws.Numbers.{numberOf, code-positive, done-number, grant-number, stores-number}
 use Rattle.model.proofs.Laws.Granting.{Grants, allocate-grants, allocate-extent-grants}
 use Rattle.model.proofs.Laws.Work.{EachWork, each-fails, Fails, Made, SomeMade, does, calls-made}
@@ -84,11 +86,17 @@ changeEntry (grantChange blocks) s = entry allocating s 0 blocks
 changeEntry (freeChange block) s = entry deallocating s block []
 changeEntry (reserveChange reservation) s = entry reserving s 0 []
 
+-- only a commit begins
+abbrev pub beginEntry : Pending → Event
+beginEntry Nothing = entry asking 0 0 []
+beginEntry (Commit s done due) = entry committing s 0 []
+beginEntry (Recovery done due) = entry asking 0 0 []
+
 unfoldable pub told : Work → Ledger → Ledger
 told openWork ledger = alters (entry opening 0 0 []) (alters crashEvent ledger)
 told crashWork ledger = alters crashEvent ledger
 told storeWork ledger = alters (entry storing 0 0 []) ledger
-told (commitWork s) ledger = alters (entry committing s 0 []) ledger
+told (beginWork new) ledger = alters (beginEntry new) ledger
 told (changeWork s change) ledger = alters (changeEntry change s) ledger
 
 -- a change alters at most the sets of its slot
@@ -205,7 +213,7 @@ ledger-told (allocateExtentCall s count near list) memory disk ledger =
     (allocate-extent-grants memory s count near list)
 ledger-told (deallocateCall s block) memory disk ledger = unless ledger _ _ (changeWork s (freeChange block)) (done-number _) (λ _. refl)
 ledger-told (precommitCall s) memory disk ledger = unless ledger _ _ (changeWork s precommitChange) (stores-number _ _) (λ _. refl)
-ledger-told (commitCall s) memory disk ledger = unless ledger _ _ (commitWork s) (stores-number _ _) (λ _. refl)
+ledger-told (commitCall s) memory disk ledger = unless ledger _ _ (beginWork (Commit s 0 (commitDue memory s))) (stores-number _ _) (λ _. refl)
 ledger-told (dropCall s) memory disk ledger = unless ledger _ _ (changeWork s dropChange) (done-number _) (λ _. refl)
 ledger-told (revokeCall s) memory disk ledger = unless ledger _ _ (changeWork s revokeChange) (stores-number _ _) (λ _. refl)
 ledger-told storeCall memory disk ledger = unless ledger _ _ storeWork (stores-number _ _) (λ _. refl)

@@ -11,7 +11,7 @@ use Rattle.model.specs.Calls.Committing.{commitAnswer}
 use Rattle.model.specs.Calls.CommitCost.{commitCostAnswer}
 use Rattle.model.specs.CostKept.{CostKept}
 use Rattle.model.specs.Outcome.{Call}
-use Rattle.model.specs.Work.{Work, openWork, crashWork, storeWork, commitWork, changeWork, blocksTouched, worksIn}
+use Rattle.model.specs.Work.{Work, openWork, crashWork, storeWork, beginWork, changeWork, blocksTouched, worksIn}
 use Rattle.crash_safety.specs.World.{World, run, Without}
 use Rattle.crash_safety.specs.InOrder.{AfterEvery}
 
@@ -20,7 +20,7 @@ unfoldable pub touchesFor : ℕ → Work → ℕ
 touchesFor s openWork = 0
 touchesFor s crashWork = 0
 touchesFor s storeWork = 0
-touchesFor s (commitWork t) = 0
+touchesFor s (beginWork new) = 0
 touchesFor s (changeWork t change) = cond (eqb t s) (blocksTouched change) 0
 
 -- all that some works touch for it
@@ -37,7 +37,7 @@ unfoldable pub endsUse : Work → Pending → Bool
 endsUse openWork pending = true
 endsUse crashWork pending = true
 endsUse storeWork pending = false
-endsUse (commitWork t) pending = false
+endsUse (beginWork new) pending = false
 endsUse (changeWork t change) pending = false
 
 -- after every list of calls: where commit cost answers so many for a slot and a count, the calls right behind it are accepted,

@@ -13,10 +13,11 @@ use Rattle.model_types.specs.declared.memory.SlotState.the-variants.{Idle}
 use Rattle.model_types.specs.declared.memory.Pending.{Pending}
 use Rattle.model_types.specs.declared.answer.Answer.{Answer}
 use Rattle.model_types.specs.Memory.{slotAt, reserveAt}
+use Rattle.model.specs.Pending.{isCommitOf}
 use Rattle.model.specs.Calls.Reserve.{reserveAnswer}
 use Rattle.model.specs.Reservations.{MayAsk, Allocates, changesReservation}
 use Rattle.model.specs.Outcome.{Call, reserveCall}
-use Rattle.model.specs.Work.{Work, openWork, crashWork, storeWork, commitWork, changeWork, bearing}
+use Rattle.model.specs.Work.{Work, openWork, crashWork, storeWork, beginWork, changeWork, bearing}
 use Rattle.crash_safety.specs.World.{World, step, run, Without}
 use Rattle.crash_safety.specs.InOrder.{InUse, AfterEvery}
 
@@ -57,7 +58,7 @@ unfoldable pub settles : ℕ → Work → Pending → Bool
 settles s openWork pending = true
 settles s crashWork pending = true
 settles s storeWork pending = false
-settles s (commitWork t) pending = eqb t s
+settles s (beginWork new) pending = isCommitOf s new
 settles s (changeWork t change) pending = eqb t s && bearing change .setsAside
 
 -- and after every list of calls, in use: "a drop or revoke puts back what that transaction used of it". Whatever an idle slot takes in

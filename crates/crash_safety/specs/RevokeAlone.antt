@@ -9,8 +9,9 @@ use Rattle.model_types.specs.declared.memory.SlotState.the-variants.{Precommitt
 use Rattle.model_types.specs.declared.memory.Pending.{Pending}
 use Rattle.model_types.specs.declared.memory.Pending.the-variants.{Commit}
 use Rattle.model_types.specs.Memory.{slotAt}
+use Rattle.model.specs.Pending.{isCommitOf}
 use Rattle.model.specs.Outcome.{Call}
-use Rattle.model.specs.Work.{Work, openWork, crashWork, storeWork, commitWork, changeWork, bearing}
+use Rattle.model.specs.Work.{Work, openWork, crashWork, storeWork, beginWork, changeWork, bearing}
 use Rattle.crash_safety.specs.Ledger.{Sets, setsOf}
 use Rattle.crash_safety.specs.World.{World, run, Without}
 use Rattle.crash_safety.specs.InOrder.{AfterEvery}
@@ -26,7 +27,7 @@ unfoldable pub endsWaiting : ℕ → Work → Pending → Bool
 endsWaiting s openWork pending = true
 endsWaiting s crashWork pending = true
 endsWaiting s storeWork pending = false
-endsWaiting s (commitWork t) pending = eqb t s
+endsWaiting s (beginWork new) pending = isCommitOf s new
 endsWaiting s (changeWork t change) pending = eqb t s && bearing change .revokes
 
 -- after every list of calls: where a precommitted slot waits, it waits with the same blocks after all calls that do no such work: drops

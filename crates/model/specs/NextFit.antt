@@ -13,7 +13,7 @@ use Rattle.model.specs.Available.{available}
 use Rattle.model.specs.Calls.Allocate.{firstMet, allocateAnswer, allocateMemory, allocateList}
 use Rattle.model.specs.Calls.AllocateExtent.{allocateExtentAnswer, allocateExtentMemory}
 use Rattle.model.specs.Outcome.{Call, openCall, crashCall, outcome}
-use Rattle.model.specs.Work.{Work, openWork, crashWork, storeWork, commitWork, changeWork, bearing, works, someWork}
+use Rattle.model.specs.Work.{Work, openWork, crashWork, storeWork, beginWork, changeWork, bearing, works, someWork}
 
 -- it holds wherever an allocate is granted, b being its value
 abbrev pub OfGrant : ((memory : Memory) (s count : ℕ) (list : List ℕ) (b : ℕ) → Type 0) → Type 0
@@ -107,7 +107,7 @@ unfoldable pub movesCursor : Work → Pending → Bool
 movesCursor openWork pending = true
 movesCursor crashWork pending = true
 movesCursor storeWork pending = false
-movesCursor (commitWork s) pending = false
+movesCursor (beginWork new) pending = false
 movesCursor (changeWork s change) pending = bearing change .grants
 
 -- no other call does: "Dropping or revoking doesn't move it back"

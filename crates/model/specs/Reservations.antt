@@ -7,8 +7,9 @@ use mathlib.Core.List.{List}
 use lib.ListN.{length, getD, set}
 use lib.Dec.{eqb}
 use Rattle.bitmap.specs.Sizes.{slotCount, maxCount}
-use Rattle.model.specs.Types.{Idle, Open, Pending, Nothing, Commit, Recovery, Memory, Answer, GrantAnswer, StoresAnswer, WorkPending, SlotBusy, OverReserved, ReservedForOthers}
+use Rattle.model.specs.Types.{Idle, Open, Pending, Nothing, Memory, Answer, GrantAnswer, StoresAnswer, WorkPending, SlotBusy, OverReserved, ReservedForOthers}
 use Rattle.model_types.specs.Memory.{slotAt, reserveAt, reserveOf, noReserves}
+use Rattle.model.specs.Pending.{isCommitOf}
 use Rattle.model.specs.Reserves.{totalReserved, othersReserved}
 use Rattle.model.specs.Calls.Allocate.{firstMet, allocateAnswer, allocateMemory}
 use Rattle.model.specs.Calls.AllocateExtent.{allocateExtentAnswer, allocateExtentMemory}
@@ -20,7 +21,7 @@ use Rattle.model.specs.Calls.Status.{counts}
 use Rattle.model.specs.FourCounts.{OfValid}
 use Rattle.model.specs.Extents.{IsExtent}
 use Rattle.model.specs.Outcome.{Call, openCall, crashCall, outcome}
-use Rattle.model.specs.Work.{Work, openWork, crashWork, storeWork, commitWork, changeWork, bearing, works, someWork}
+use Rattle.model.specs.Work.{Work, openWork, crashWork, storeWork, beginWork, changeWork, bearing, works, someWork}
 
 -- ---- what a slot can have
 
@@ -137,7 +138,7 @@ unfoldable pub changesReservation : ℕ → Work → Pending → Bool
 changesReservation s openWork pending = true
 changesReservation s crashWork pending = true
 changesReservation s storeWork pending = false
-changesReservation s (commitWork t) pending = false
+changesReservation s (beginWork new) pending = false
 changesReservation s (changeWork t change) pending = eqb t s && bearing change .alters
 
 -- no other call does: none that is refused, none of another slot, no commit and none of its stores
@@ -153,18 +154,12 @@ ReservationStays =
 abbrev pub together : Memory → ℕ → ℕ
 together memory s = reserveAt memory s .reservation + reserveAt memory s .drawn
 
--- whether the pending work is the commit of slot s
-abbrev pub isCommitOf : ℕ → Pending → Bool
-isCommitOf s Nothing = false
-isCommitOf s (Commit t done due) = eqb t s
-isCommitOf s (Recovery done due) = false
-
 -- whether a work may change both together: an open, a crash, a reserve of this slot, its commit, and a store of that
 unfoldable pub changesTogether : ℕ → Work → Pending → Bool
 changesTogether s openWork pending = true
 changesTogether s crashWork pending = true
 changesTogether s storeWork pending = isCommitOf s pending
-changesTogether s (commitWork t) pending = eqb t s
+changesTogether s (beginWork new) pending = isCommitOf s new
 changesTogether s (changeWork t change) pending = eqb t s && bearing change .setsAside
 
 -- no other call does: what a grant takes from the one it adds to the other, and a drop or revoke puts it back

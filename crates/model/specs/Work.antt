@@ -6,9 +6,11 @@ use mathlib.Core.Bool.{Bool, true, false, _||_}
 use mathlib.Core.Option.{Option}
 use mathlib.Core.List.{List, [], _∷_, _++_}
 use lib.ListN.{length}
-use Rattle.model.specs.Types.{Error, Pending, Memory}
+use Rattle.model.specs.Types.{Error, Pending, Commit, Memory}
 use Rattle.model_types.specs.Memory.{zeroMemory}
 use Rattle.model.specs.First.{unlessRefused}
+use Rattle.model.specs.Commit.{commitDue}
+use Rattle.model.specs.Pending.{begun}
 use Rattle.model.specs.Rollback.{rolledBack}
 use Rattle.model.specs.Reserves.{reserving}
 use Rattle.model.specs.Calls.Opening.{openError, opened}
@@ -17,7 +19,7 @@ use Rattle.model.specs.Calls.Allocate.{allocateError, firstMet, taking}
 use Rattle.model.specs.Calls.AllocateExtent.{allocateExtentError, nearestExtent}
 use Rattle.model.specs.Calls.Deallocate.{deallocateError, freeing}
 use Rattle.model.specs.Calls.Precommit.{precommitError, precommitting}
-use Rattle.model.specs.Calls.Committing.{commitError, committing}
+use Rattle.model.specs.Calls.Committing.{commitError}
 use Rattle.model.specs.Calls.Drop.{dropError}
 use Rattle.model.specs.Calls.Revoke.{revokeError}
 use Rattle.model.specs.Calls.Storing.{storeError, advanced, nextStored}
@@ -31,10 +33,10 @@ pub data Change : Type 0 where
   grantChange : List ℕ → Change
   freeChange reserveChange : ℕ → Change
 
--- an open, a crash, a store, the commit of a slot, a change of one
+-- an open, a crash, a store, pending work that begins (a commit), a change of one slot
 pub data Work : Type 0 where
   openWork crashWork storeWork : Work
-  commitWork : ℕ → Work
+  beginWork : Pending → Work
   changeWork : ℕ → Change → Work
 
 -- ---- what each leaves
@@ -54,7 +56,7 @@ unfoldable pub worked : Work → Memory → List ℕ → Memory
 worked openWork memory disk = opened disk
 worked crashWork memory disk = zeroMemory
 worked storeWork memory disk = advanced memory (memory .pending)
-worked (commitWork s) memory disk = committing memory s
+worked (beginWork new) memory disk = begun memory new
 worked (changeWork s change) memory disk = changed change memory s
 
 -- the disk after it: only a store changes it
@@ -62,7 +64,7 @@ unfoldable pub workedDisk : Work → Memory → List ℕ → List ℕ
 workedDisk openWork memory disk = disk
 workedDisk crashWork memory disk = disk
 workedDisk storeWork memory disk = nextStored memory disk
-workedDisk (commitWork s) memory disk = disk
+workedDisk (beginWork new) memory disk = disk
 workedDisk (changeWork s change) memory disk = disk
 
 -- both after a list of works
@@ -85,7 +87,7 @@ works (allocateExtentCall s count near list) memory disk =
     changing (allocateExtentError memory s count near list) s (grantChange (nearestExtent memory count near))
 works (deallocateCall s block) memory disk = changing (deallocateError memory s block) s (freeChange block)
 works (precommitCall s) memory disk = changing (precommitError memory s) s precommitChange
-works (commitCall s) memory disk = unlessRefused (commitError memory s) (commitWork s ∷ []) []
+works (commitCall s) memory disk = unlessRefused (commitError memory s) (beginWork (Commit s 0 (commitDue memory s)) ∷ []) []
 works (dropCall s) memory disk = changing (dropError memory s) s dropChange
 works (revokeCall s) memory disk = changing (revokeError memory s) s revokeChange
 works storeCall memory disk = unlessRefused (storeError memory disk) (storeWork ∷ []) []

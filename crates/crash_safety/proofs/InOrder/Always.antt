@@ -6,19 +6,21 @@ use mathlib.Core.Bool.{Bool, true, false, false≢true, true≢false}
 use mathlib.Core.Option.{Option, none}
 use mathlib.Core.List.{List, [], _∷_}
 use Rattle.model_types.specs.declared.error.Error.{Error}
+use Rattle.model_types.specs.declared.memory.Memory.{Memory}
 use Rattle.model_types.specs.declared.memory.Pending.{Pending}
 use Rattle.model_types.specs.Memory.{zeroMemory}
 use Rattle.model.specs.First.{unlessRefused}
+use Rattle.model.specs.Pending.{begun}
 use Rattle.model.specs.Valid.{valid}
 use Rattle.model.specs.Calls.Opening.{openError, opened, openMemory}
 use Rattle.model.specs.Calls.Format.{formatDisk}
 use Rattle.model.specs.Outcome.{Call, outcome, openCall, storeCall, crashCall}
-use Rattle.model.specs.Work.{Work, openWork, crashWork, storeWork, commitWork, changeWork, worked, workedDisk}
+use Rattle.model.specs.Work.{Work, openWork, crashWork, storeWork, beginWork, changeWork, worked, workedDisk}
 use Rattle.crash_safety.specs.World.{World, begin, step, run, Without}
 use Rattle.model.proofs.Laws.DiskParts.{opens-parts}
 use Rattle.model.proofs.Laws.Valid.{parts-valid}
 use Rattle.model.proofs.Laws.Opened.{opened-valid, opened-matches}
-use Rattle.model.proofs.Laws.Work.{Made}
+use Rattle.model.proofs.Laws.Work.{by-begun, Made}
 use Rattle.crash_safety.specs.InOrder.{Consistent, InUse, InOrder, AlwaysInOrder, NoCrash, InUseFromOpen}
 use Rattle.crash_safety.proofs.Invariant.{Invariant}
 use Rattle.crash_safety.proofs.Crash.{zero-invalid}
@@ -48,9 +50,14 @@ work-uses w i used call crashWork m = inl refl
 work-uses w i used call storeWork a =
     let related = i .related (a .is-valid) in
     inr (store-consistent (w .memory) (w .disk) (related .slots) (related .sam) (used (a .is-valid)) a)
-work-uses w i used call (commitWork s) a =
+work-uses w i used call (beginWork new) m =
+    inr
+    (by-begun (λ p. Consistent (begun (w .memory) p) (w .disk)) (w .memory)
+    (λ s done due a e.
     let related = i .related (a .ready .is-valid) in
-    inr (commit-consistent (w .memory) (w .disk) s (related .slots) (related .sam) (used (a .ready .is-valid)) a)
+    subst (λ (after : Memory). Consistent after (w .disk)) e
+    (commit-consistent (w .memory) (w .disk) s (related .slots) (related .sam) (used (a .ready .is-valid)) a))
+    new m)
 work-uses w i used call (changeWork s change) (ready, a) =
     inr (change-consistent (w .memory) (w .disk) (i .related (ready .is-valid) .slots) (used (ready .is-valid)) s change ready a)
 

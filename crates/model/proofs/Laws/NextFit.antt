@@ -15,20 +15,21 @@ use Rattle.bitmap.specs.Round.{roundFrom, wrapped, afterLast}
 use Rattle.bitmap.proofs.Laws.Blocks.{getD-member, member-take, from-append}
 use Rattle.bitmap.proofs.Laws.Round.{member-round, round-member, round-zero, round-same, without, available-without, round-drop, after-met-lt, after-last-at, wrapped-below, wrapped-end}
 use Rattle.bitmap.proofs.Laws.Ahead.{Rises, rises-at, rises-first, round-rises}
-use Rattle.model.specs.Types.{Memory, Error, GrantAnswer}
+use Rattle.model.specs.Types.{Pending, Memory, Error, GrantAnswer}
 use Rattle.model_types.specs.Answers.{granted}
 use Rattle.model_types.specs.Memory.{zeroMemory}
 use Rattle.model.specs.First.{unlessRefused}
 use Rattle.model.specs.Available.{available}
 use Rattle.model.specs.Commit.{committed}
+use Rattle.model.specs.Pending.{finished}
 use Rattle.model.specs.Calls.Opening.{openError, opened, openMemory}
 use Rattle.model.specs.Calls.Allocate.{allocateError, met, firstMet, taking, allocateAnswer, allocateMemory, allocateList}
 use Rattle.model.specs.Calls.AllocateExtent.{allocateExtentError, nearestExtent, allocateExtentAnswer, allocateExtentMemory}
 use Rattle.model.specs.Outcome.{outcome}
-use Rattle.model.specs.Work.{Work, openWork, crashWork, storeWork, commitWork, changeWork, worked}
+use Rattle.model.specs.Work.{Work, openWork, crashWork, storeWork, beginWork, changeWork, worked}
 use Rattle.model.proofs.Laws.Work.{Fails, by-failing}
 use Rattle.model.proofs.Laws.Change.{change-frame}
-use Rattle.model.proofs.Laws.Progress.{by-finish, by-store, by-commit}
+use Rattle.model.proofs.Laws.Progress.{by-finish, by-store, by-begin}
 use Rattle.model.specs.NextFit.{AvailableBlock, ahead, ListsMet, ListsFirstMet, AnswersFirstMet, CutRotation, ListsRotation, LowestFromZero, Behind, CursorBehindLast, CursorBehindExtent, CarriesOn, CursorAnew, movesCursor, CursorStays}
 use Rattle.model.proofs.Laws.Answered.{grant-answered}
 use Rattle.model.proofs.Laws.Accepted.{AllocateAccepted, allocate-accepted, allocate-extent-accepted}
@@ -253,15 +254,19 @@ pub cursor-anew : CursorAnew
 unfolding outcome openMemory opened
 cursor-anew memory disk = (left (openError disk) (opened disk) zeroMemory 0 refl refl, refl)
 
+-- nor does the last store of a work move it
+cursor-finished : (memory : Memory) (p : Pending) → finished memory p .cursor ≡ memory .cursor
+unfolding committed
+cursor-finished memory p = by-finish (λ m. m .cursor ≡ memory .cursor) memory refl refl p (λ _ _ _ _. refl)
+
 -- work by work
 cursor-worked : (new : Work) (memory : Memory) (disk : List ℕ) → Fails movesCursor new memory → worked new memory disk .cursor ≡ memory .cursor
-unfolding movesCursor worked committed
+unfolding movesCursor worked
 cursor-worked openWork memory disk e = absurd (true≢false e)
 cursor-worked crashWork memory disk e = absurd (true≢false e)
 cursor-worked storeWork memory disk e =
-    let Same : Memory → Type 0 = λ m. m .cursor ≡ memory .cursor in
-    by-store Same memory (memory .pending) (by-finish Same memory refl refl (memory .pending) (λ _ _ _ _. refl)) refl
-cursor-worked (commitWork s) memory disk e = by-commit (λ m. m .cursor ≡ memory .cursor) memory s refl refl
+    by-store (λ m. m .cursor ≡ memory .cursor) memory (memory .pending) (cursor-finished memory (memory .pending)) refl
+cursor-worked (beginWork new) memory disk e = by-begin (λ m. m .cursor ≡ memory .cursor) memory new (cursor-finished memory new) refl
 cursor-worked (changeWork s change) memory disk e = change-frame memory s change .cursor e
 
 pub cursor-stays : CursorStays

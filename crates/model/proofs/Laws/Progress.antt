@@ -2,17 +2,20 @@
 -- by these laws.
 use Prim.Native.Nat.{ℕ, suc, _+_}
 use native.Mathlib.Omega.{arith}
-use mathlib.Core.Path.{_≡_, refl}
+use mathlib.Core.Path.{_≡_, refl, sym, ap, _∙_}
 use mathlib.Core.Bool.{Bool, true, false, cond, true≢false}
+use lib.ListN.{length}
 use lib.Dec.{eqb}
+use borrow.Author.Tests.{eqb-true, ne-eqb}
 use Rattle.model.specs.Types.{Pending, Nothing, Commit, Recovery, Memory}
 use Rattle.model_types.specs.Memory.{withPending}
-use Rattle.model_types.specs.Pending.{isNothing}
-use Rattle.model.specs.Commit.{committedSam, changedOf, commitDue, refreshed, committed}
-use Rattle.model.specs.Pending.{storesDone, storesDue, oneMoreDone, finished, storesLeft}
-use Rattle.model.specs.Reservations.{isCommitOf}
+use Rattle.model_types.specs.Pending.{storesFor, isNothing}
+use Rattle.model.specs.Stores.{commitStores}
+use Rattle.model.specs.Commit.{committedSam, entriesOf, changedOf, commitDue, refreshed, committed}
+use Rattle.model.specs.Pending.{storesDone, storesDue, oneMoreDone, finished, begun, storesLeft, isCommitOf}
 use Rattle.model.specs.Calls.Committing.{committing}
 use Rattle.model.specs.Calls.Storing.{advanced}
+use Rattle.model.proofs.Laws.StoreLists.{length-commitStores}
 
 -- what holds of both holds of whichever it is
 pub either : {A : Type 0} (P : A → Type 0) (t : Bool) {x y : A} → P x → P y → P (cond t x y)
@@ -69,8 +72,40 @@ finished-later memory Nothing n = absurd (true≢false n)
 finished-later memory (Commit s done due) n = refl
 finished-later memory (Recovery done due) n = refl
 
+-- ---- how it begins
+
+-- a commit is pending with its stores, or ended at once where it changes no word
+pub committing-begun : (memory : Memory) (s : ℕ) → committing memory s ≡ begun memory (Commit s 0 (commitDue memory s))
+unfolding committing begun commitDue storesDue finished
+committing-begun memory s = go (eqb (changedOf memory s) 0) (length (commitStores (entriesOf memory s))) (length-commitStores (entriesOf memory s))
+  where
+    go : (t : Bool) (n : ℕ) → n ≡ storesFor (length (entriesOf memory s))
+        → cond t (committed memory s) (withPending memory (Commit s 0 (cond t 0 n)))
+        ≡ cond (eqb (cond t 0 n) 0) (committed memory s) (withPending memory (Commit s 0 (cond t 0 n)))
+    go true n e = refl
+    go false n e = ap (λ (u : Bool). cond u (committed memory s) (withPending memory (Commit s 0 n))) (sym (ne-eqb n 0 (λ z. omega (arith, z, e))))
+
+-- work that begins is finished by what it makes, with stores or without
+pub begun-finished : (memory : Memory) (p : Pending) → isNothing p ≡ false → finished (begun memory p) (begun memory p .pending) ≡ finished memory p
+unfolding begun isNothing finished committed committedSam refreshed
+begun-finished memory Nothing n = absurd (true≢false n)
+begun-finished memory (Commit s done due) n = either (λ (m : Memory). finished m (m .pending) ≡ committed memory s) (eqb (storesDue (Commit s done due)) 0) refl refl
+begun-finished memory (Recovery done due) n =
+    either (λ (m : Memory). finished m (m .pending) ≡ withPending memory Nothing) (eqb (storesDue (Recovery done due)) 0) refl refl
+
+-- and has as many stores left as are due
+pub begun-left : (memory : Memory) (p : Pending) → isNothing p ≡ false → storesDone p ≡ 0 → storesLeft (begun memory p .pending) ≡ storesDue p
+unfolding begun storesLeft storesDue storesDone
+begun-left memory p n z = go (eqb (storesDue p) 0) refl
+  where
+    go : (t : Bool) → eqb (storesDue p) 0 ≡ t → storesLeft (cond t (finished memory p) (withPending memory p) .pending) ≡ storesDue p
+    go true e = ap storesLeft (finished-pending memory p n) ∙ sym (eqb-true (storesDue p) 0 e)
+    go false e = omega (arith, z)
+
+-- ---- what every kind keeps
+
 -- what holds of the memory with nothing pending, and of the one that a pending commit makes, holds then; after the next store, where it
--- holds with one more done; and after a commit, which ends at once or begins
+-- holds with one more done; and after new work, which ends at once or is pending
 module _ (P : Memory → Type 0) (memory : Memory) where
   pub by-finish : P memory → P (withPending memory Nothing) → (p : Pending) → ((t done due : ℕ) → p ≡ Commit t done due → P (committed memory t))
       → P (finished memory p)
@@ -83,6 +118,6 @@ module _ (P : Memory → Type 0) (memory : Memory) where
   unfolding advanced
   by-store p last more = either P (eqb (storesDone p + 1) (storesDue p)) last more
 
-  pub by-commit : (s : ℕ) → P (committed memory s) → P (withPending memory (Commit s 0 (commitDue memory s))) → P (committing memory s)
-  unfolding committing
-  by-commit s ended begun = either P (eqb (changedOf memory s) 0) ended begun
+  pub by-begin : (p : Pending) → P (finished memory p) → P (withPending memory p) → P (begun memory p)
+  unfolding begun
+  by-begin p ended pends = either P (eqb (storesDue p) 0) ended pends

@@ -10,20 +10,20 @@ use lib.Seq.{getD-set-other}
 use lib.Dec.{eqb}
 use borrow.Author.Tests.{eqb-true, eqb-false}
 use Rattle.bitmap.specs.Sizes.{slotCount}
-use Rattle.model.specs.Types.{Error, Commit, Reserve, Memory}
+use Rattle.model.specs.Types.{Error, Pending, Commit, Reserve, Memory}
 use Rattle.model_types.specs.Memory.{reserveAt, noReserve, noReserves, zeroMemory}
 use Rattle.model.specs.First.{unlessRefused}
 use Rattle.model.specs.Reserves.{usedUp}
 use Rattle.model.specs.Commit.{committed}
+use Rattle.model.specs.Pending.{finished, begun, isCommitOf}
 use Rattle.model.specs.Calls.Opening.{openError, opened, openMemory}
-use Rattle.model.specs.Calls.Committing.{committing}
 use Rattle.model.specs.Calls.Storing.{advanced}
 use Rattle.model.specs.Outcome.{outcome}
-use Rattle.model.specs.Work.{Change, Work, openWork, crashWork, storeWork, commitWork, changeWork, bearing, changed, worked}
-use Rattle.model.specs.Reservations.{ReservationsWiped, changesReservation, ReservationStays, together, isCommitOf, changesTogether, TogetherStays}
+use Rattle.model.specs.Work.{Change, Work, openWork, crashWork, storeWork, beginWork, changeWork, bearing, changed, worked}
+use Rattle.model.specs.Reservations.{ReservationsWiped, changesReservation, ReservationStays, together, changesTogether, TogetherStays}
 use Rattle.model.proofs.Laws.Work.{Fails, by-failing}
 use Rattle.model.proofs.Laws.Change.{change-frame}
-use Rattle.model.proofs.Laws.Progress.{by-finish, by-store, by-commit}
+use Rattle.model.proofs.Laws.Progress.{by-finish, by-store, by-begin}
 
 -- ---- what holds of the reserves
 
@@ -32,16 +32,19 @@ module _ (P : List Reserve → Type 0) (memory : Memory) (old : P (memory .reser
   abbrev UsedUp : ℕ → Type 0
   UsedUp t = P (set (memory .reserves) t (usedUp (reserveAt memory t)))
 
-  -- it may end with its call, and with a store
-  commit-kept : (t : ℕ) → UsedUp t → P (committing memory t .reserves)
-  unfolding committed
-  commit-kept t used = by-commit (λ m. P (m .reserves)) memory t used old
+  abbrev Kept : Memory → Type 0
+  Kept m = P (m .reserves)
 
-  store-kept : ((t done due : ℕ) → memory .pending ≡ Commit t done due → UsedUp t) → P (advanced memory (memory .pending) .reserves)
+  finish-kept : (p : Pending) → ((t done due : ℕ) → p ≡ Commit t done due → UsedUp t) → Kept (finished memory p)
   unfolding committed
-  store-kept used =
-      let Kept : Memory → Type 0 = λ m. P (m .reserves) in
-      by-store Kept memory (memory .pending) (by-finish Kept memory old old (memory .pending) used) old
+  finish-kept p used = by-finish Kept memory old old p used
+
+  -- it may end with its call, and with a store
+  begin-kept : (p : Pending) → ((t done due : ℕ) → p ≡ Commit t done due → UsedUp t) → Kept (begun memory p)
+  begin-kept p used = by-begin Kept memory p (finish-kept p used) old
+
+  store-kept : ((t done due : ℕ) → memory .pending ≡ Commit t done due → UsedUp t) → Kept (advanced memory (memory .pending))
+  store-kept used = by-store Kept memory (memory .pending) (finish-kept (memory .pending) used) old
 
 -- ---- a reservation for each slot
 
@@ -65,7 +68,7 @@ module _ (memory : Memory) (eight : length (memory .reserves) ≡ slotCount) whe
   eight-worked openWork disk = refl
   eight-worked crashWork disk = refl
   eight-worked storeWork disk = store-kept Eight memory eight (λ t done due e. length-set (memory .reserves) t _ ∙ eight)
-  eight-worked (commitWork t) disk = commit-kept Eight memory eight t (length-set (memory .reserves) t _ ∙ eight)
+  eight-worked (beginWork new) disk = begin-kept Eight memory eight new (λ t done due e. length-set (memory .reserves) t _ ∙ eight)
   eight-worked (changeWork t change) disk = change-frame memory t change .reserves .size ∙ eight
 
 -- ---- a reservation that stays
@@ -102,7 +105,7 @@ module _ (s : ℕ) (memory : Memory) where
   reservation-worked openWork disk e = absurd (true≢false e)
   reservation-worked crashWork disk e = absurd (true≢false e)
   reservation-worked storeWork disk e = store-kept Same memory refl (λ t done due p. used-up t)
-  reservation-worked (commitWork t) disk e = commit-kept Same memory refl t (used-up t)
+  reservation-worked (beginWork new) disk e = begin-kept Same memory refl new (λ t done due p. used-up t)
   reservation-worked (changeWork t change) disk e = changed-same t change (eqb t s) refl e
 
 pub reservation-stays : ReservationStays
@@ -134,7 +137,7 @@ module _ (s : ℕ) (memory : Memory) where
   together-worked openWork disk e = absurd (true≢false e)
   together-worked crashWork disk e = absurd (true≢false e)
   together-worked storeWork disk e = store-kept SameSum memory refl (λ t done due p. other-sum t _ (sym (ap (isCommitOf s) p) ∙ e))
-  together-worked (commitWork t) disk e = commit-kept SameSum memory refl t (other-sum t _ e)
+  together-worked (beginWork new) disk e = begin-kept SameSum memory refl new (λ t done due p. other-sum t _ (sym (ap (isCommitOf s) p) ∙ e))
   together-worked (changeWork t change) disk e = changed-sum t change (eqb t s) refl e
 
 pub together-stays : TogetherStays

@@ -7,24 +7,26 @@ use mathlib.Core.Bool.{Bool, true, false, _||_, true≢false}
 use mathlib.Core.Option.{Option, none, some}
 use mathlib.Core.List.{List, [], _∷_, _++_}
 use lib.ListN.{length}
-use Rattle.model.specs.Types.{Error, Pending, Memory}
+use Rattle.model.specs.Types.{Error, Pending, Nothing, Commit, Recovery, Memory}
 use Rattle.model_types.specs.Memory.{zeroMemory}
 use Rattle.model.specs.First.{unlessRefused}
+use Rattle.model.specs.Pending.{begun}
 use Rattle.model.specs.Calls.Opening.{openError, opened, openMemory}
 use Rattle.model.specs.Calls.Start.{startMemory}
 use Rattle.model.specs.Calls.Allocate.{allocateMemory}
 use Rattle.model.specs.Calls.AllocateExtent.{allocateExtentMemory}
 use Rattle.model.specs.Calls.Deallocate.{deallocateMemory}
 use Rattle.model.specs.Calls.Precommit.{precommitMemory}
-use Rattle.model.specs.Calls.Committing.{commitMemory}
+use Rattle.model.specs.Calls.Committing.{commitError, committing, commitMemory}
 use Rattle.model.specs.Calls.Drop.{dropMemory}
 use Rattle.model.specs.Calls.Revoke.{revokeMemory}
 use Rattle.model.specs.Calls.Storing.{storeMemory, storeDisk}
 use Rattle.model.specs.Calls.Reserve.{reserveMemory}
 use Rattle.model.specs.Outcome.{Call, outcome, openCall, startCall, allocateCall, allocateExtentCall, deallocateCall, precommitCall, commitCall, dropCall, revokeCall, storeCall, statusCall, commitCostCall, reserveCall, crashCall}
-use Rattle.model.specs.Work.{Change, startChange, precommitChange, dropChange, revokeChange, grantChange, freeChange, reserveChange, Work, openWork, crashWork, storeWork, commitWork, changeWork, changed, worked, workedDisk, workedAll, works, worksIn, someWork}
+use Rattle.model.specs.Work.{Change, startChange, precommitChange, dropChange, revokeChange, grantChange, freeChange, reserveChange, Work, openWork, crashWork, storeWork, beginWork, changeWork, changed, worked, workedDisk, workedAll, works, worksIn, someWork}
 use Rattle.model.specs.Completion.{State, afterCalls}
 use Rattle.model.proofs.Laws.Accepted.{Ready, StartAccepted, start-accepted, ReserveAccepted, reserve-accepted, DeallocateAccepted, deallocate-accepted, PrecommitAccepted, precommit-accepted, drop-accepted, CommitAccepted, commit-accepted, revoke-accepted, StoreAccepted, store-accepted}
+use Rattle.model.proofs.Laws.Progress.{committing-begun}
 use Rattle.model.proofs.Laws.Granting.{Grants, allocate-grants, allocate-extent-grants}
 
 -- ---- works one after the other
@@ -100,12 +102,26 @@ ChangeMade (grantChange blocks) memory s = Grants memory s (length blocks) block
 ChangeMade (freeChange block) memory s = DeallocateAccepted memory s block
 ChangeMade (reserveChange reservation) memory s = ReserveAccepted memory s reservation
 
+-- what work that begins tells: it is a commit that wasn't refused
+abbrev pub BeginMade : Pending → Memory → Type 0
+BeginMade Nothing memory = ⊥
+BeginMade (Commit s done due) memory = CommitAccepted memory s × (committing memory s ≡ begun memory (Commit s done due))
+BeginMade (Recovery done due) memory = ⊥
+
+-- by which kind it is
+pub by-begun : (P : Pending → Type 0) (memory : Memory)
+    → ((s done due : ℕ) → CommitAccepted memory s → committing memory s ≡ begun memory (Commit s done due) → P (Commit s done due))
+    → (new : Pending) → BeginMade new memory → P new
+by-begun P memory commit Nothing made = absurd made
+by-begun P memory commit (Commit s done due) (a, e) = commit s done due a e
+by-begun P memory commit (Recovery done due) made = absurd made
+
 -- and what a work tells. Only a crash tells which call it was
 abbrev pub Made : Call → Work → Memory → List ℕ → Type 0
 Made call openWork memory disk = openError disk ≡ none
 Made call crashWork memory disk = (call ≡ crashCall) ⊎ (openError disk ≡ none → ⊥)
 Made call storeWork memory disk = StoreAccepted memory disk
-Made call (commitWork s) memory disk = CommitAccepted memory s
+Made call (beginWork new) memory disk = BeginMade new memory
 Made call (changeWork s change) memory disk = Ready memory s × ChangeMade change memory s
 
 pub record Does (call : Call) (memory : Memory) (disk : List ℕ) (all : List Work) : Type 0 where
@@ -176,7 +192,7 @@ unfoldable pub isCrash : Work → Pending → Bool
 isCrash openWork pending = false
 isCrash crashWork pending = true
 isCrash storeWork pending = false
-isCrash (commitWork s) pending = false
+isCrash (beginWork new) pending = false
 isCrash (changeWork s change) pending = false
 
 made-by : (call : Call) (new : Work) (memory : Memory) (disk : List ℕ) → SomeMade new memory disk × Fails isCrash new memory → Made call new memory disk
@@ -184,7 +200,7 @@ unfolding isCrash
 made-by call openWork memory disk (made, f) = made .1
 made-by call crashWork memory disk (made, f) = absurd (true≢false f)
 made-by call storeWork memory disk (made, f) = made .1
-made-by call (commitWork s) memory disk (made, f) = made .1
+made-by call (beginWork new) memory disk (made, f) = made .1
 made-by call (changeWork s change) memory disk (made, f) = made .1
 
 -- a call that leaves what several leave in turn, none of them a crash, does their works: one clause of `does` below
@@ -226,7 +242,9 @@ does (allocateCall s count list) memory disk = on-memory _ _ _ _ _ refl refl ref
 does (allocateExtentCall s count near list) memory disk = on-memory _ _ _ _ _ refl refl refl (λ e. counted (allocate-extent-grants memory s count near list e))
 does (deallocateCall s block) memory disk = on-memory _ _ _ _ _ refl refl refl (λ e. let a = deallocate-accepted memory s block e in (a .ready, a))
 does (precommitCall s) memory disk = on-memory _ _ _ _ _ refl refl refl (λ e. let a = precommit-accepted memory s e in (a .ready, a))
-does (commitCall s) memory disk = on-memory _ _ _ _ _ refl refl refl (commit-accepted memory s)
+does (commitCall s) memory disk =
+    let begins = committing-begun memory s in
+    on-memory _ _ _ _ _ (ap (λ (m : Memory). unlessRefused (commitError memory s) m memory) begins) refl refl (λ e. (commit-accepted memory s e, begins))
 does (dropCall s) memory disk = on-memory _ _ _ _ _ refl refl refl (λ e. let a = drop-accepted memory s e in (a .ready, a))
 does (revokeCall s) memory disk = on-memory _ _ _ _ _ refl refl refl (λ e. let a = revoke-accepted memory s e in (a .ready, a))
 does storeCall memory disk = unless _ _ _ _ _ refl refl (store-accepted memory disk)
