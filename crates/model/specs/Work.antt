@@ -119,12 +119,16 @@ pub record Bearing : Type 0 where
 
 abbrev pub plain : Bearing
 plain = record { grants = false; alters = false; setsAside = false; revokes = false }
+
 abbrev pub granting : Bearing
 granting = record { grants = true; alters = true; setsAside = false; revokes = false }
+
 abbrev pub dropping : Bearing
 dropping = record { grants = false; alters = true; setsAside = false; revokes = false }
+
 abbrev pub revoking : Bearing
 revoking = record { grants = false; alters = true; setsAside = false; revokes = true }
+
 abbrev pub settingAside : Bearing
 settingAside = record { grants = false; alters = true; setsAside = true; revokes = false }
 
