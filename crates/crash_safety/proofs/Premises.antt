@@ -43,17 +43,17 @@ idleCalls =
     ∷ (storeCall ∷ statusCall ∷ commitCostCall 1 1 ∷ allocateCall 2 2 list64 ∷ [])
     ∷ []
 
--- and that are: of each kind one, of slots 1, 2 and 3. In the seventh slot 1's allocate is delayed by slot 3's commit (8); in the eighth
--- its own commit has no stores, in the ninth it has
+-- and that are: of each kind one, of slots 1, 2 and 3. In the seventh slot 1's allocate is delayed by slot 3's commit (8), whose block it
+-- then frees; in the eighth its own commit has no stores, in the ninth it has
 unfoldable pub busyCalls : List (List Call)
 busyCalls =
     (openCall ∷ [])
     ∷ (crashCall ∷ [])
     ∷ (allocateCall 1 1 list64 ∷ [])
     ∷ (allocateExtentCall 2 1 3 list64 ∷ [])
-    ∷ (dropCall 1 ∷ [])
+    ∷ (dropCall 1 ∷ startCall 1 ∷ [])
     ∷ (revokeCall 3 ∷ [])
-    ∷ (commitCall 3 ∷ allocateCall 1 1 list64 ∷ replicate 5 storeCall)
+    ∷ (commitCall 3 ∷ allocateCall 1 1 list64 ∷ replicate 5 storeCall ++ deallocateCall 1 0 ∷ [])
     ∷ (precommitCall 1 ∷ commitCall 1 ∷ [])
     ∷ (allocateCall 1 1 list64 ∷ precommitCall 1 ∷ commitCall 1 ∷ storeCall ∷ [])
     ∷ (dropCall 2 ∷ reserveCall 2 1 ∷ startCall 2 ∷ [])
@@ -81,6 +81,7 @@ touchedRows =
     ((allocateCall 1 2 list64 ∷ allocateCall 2 1 list64 ∷ [])
     ∷ (allocateCall 1 1 [] ∷ dropCall 3 ∷ allocateExtentCall 2 1 1 list64 ∷ [])
     ∷ (revokeCall 3 ∷ allocateExtentCall 1 2 1 list64 ∷ allocateCall 1 1 list64 ∷ dropCall 1 ∷ [])
+    ∷ (commitCall 3 ∷ allocateCall 1 1 list64 ∷ replicate 5 storeCall ++ deallocateCall 1 0 ∷ [])
     ∷ [])
     ++ map (λ calls. touchesIn 1 calls (worldAfter (openCall ∷ startCall 2 ∷ allocateCall 2 2 list64 ∷ precommitCall 2 ∷ commitCall 2 ∷ replicate 5 storeCall ++ startCall 1 ∷ [])))
     ((deallocateCall 1 0 ∷ deallocateCall 1 0 ∷ deallocateCall 1 3 ∷ deallocateCall 1 1 ∷ []) ∷ [])
@@ -129,5 +130,5 @@ premisesExpected =
     ∷ (1 ∷ 1 ∷ 0 ∷ 0 ∷ 0 ∷ 0 ∷ 0 ∷ 0 ∷ 0 ∷ 0 ∷ [])
     -- a commit that is refused is none
     ∷ (0 ∷ 1 ∷ [])
-    ∷ (2 ∷ 0 ∷ 3 ∷ 2 ∷ [])
+    ∷ (2 ∷ 0 ∷ 3 ∷ 1 ∷ 2 ∷ [])
     ∷ []
