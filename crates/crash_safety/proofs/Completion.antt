@@ -5,7 +5,7 @@ use native.Mathlib.Omega.{arith}
 use mathlib.Core.Path.{_≡_, refl, sym, ap, _∙_, subst, subst₂}
 use mathlib.Core.Bool.{Bool, true, false, cond}
 use mathlib.Core.Option.{Option, none}
-use mathlib.Core.List.{List, _∷_, map}
+use mathlib.Core.List.{List, [], _∷_, map}
 use lib.ListN.{length, take, drop, replicate, length-set, length-map, length-drop}
 use lib.Seq.{take-all}
 use lib.Dec.{eqb}
@@ -27,7 +27,7 @@ use Rattle.model.specs.Valid.{pendingValid}
 use Rattle.model.specs.Disk.{dueStores}
 use Rattle.model.specs.Calls.Committing.{commitError, committing, commitAnswer, commitMemory}
 use Rattle.model.specs.Calls.Storing.{advanced, storeMemory, storeDisk}
-use Rattle.model.specs.Completion.{State, StoresAccepted, afterStores, completed, carriedOut}
+use Rattle.model.specs.Completion.{State, afterCalls, StoresAccepted, afterStores, completed, carriedOut}
 use Rattle.model.specs.Outcome.{Call, outcome, commitCall, storeCall}
 use Rattle.model.proofs.Laws.Accepted.{is-nothing, StoreAccepted, accepted-store, commit-accepted}
 use Rattle.model.proofs.Laws.Valid.{valid-parts}
@@ -35,7 +35,7 @@ use Rattle.model.proofs.Laws.Pending.{unfinished}
 use Rattle.model.proofs.Laws.Committed.{committed-bitmap}
 use Rattle.model.proofs.Laws.DueStores.{due-length}
 use Rattle.model.proofs.Laws.Progress.{some-left, one-fewer, finished-pending, committing-begun, begun-finished, begun-left, by-finish, by-store, by-begin}
-use Rattle.model.proofs.Laws.Stored.{stored-memory, stored-disk, stored-is}
+use Rattle.model.proofs.Laws.Stored.{stored-memory, stored-disk, stored-is, stores-in-turn}
 use Rattle.crash_safety.specs.World.{World, step, run}
 use Rattle.crash_safety.specs.InOrder.{Consistent, InUse, Completes}
 use Rattle.crash_safety.proofs.Invariant.{Invariant}
@@ -221,31 +221,14 @@ module _ (memory : Memory) (disk : List ℕ) (s : ℕ) where
 abbrev pub stored : ℕ → World → World
 stored n w = run (replicate n storeCall) w
 
--- memory and disk after n store calls
+-- memory and disk after calls made in turn
+pub after-calls : (calls : List Call) (w : World) → afterCalls calls (w .memory) (w .disk) ≡ record { memory = run calls w .memory; disk = run calls w .disk }
+unfolding afterCalls run step
+after-calls [] w = refl
+after-calls (call ∷ calls) w = after-calls calls (step call w)
+
 pub after-stored : (n : ℕ) (w : World) → afterStores n (w .memory) (w .disk) ≡ record { memory = stored n w .memory; disk = stored n w .disk }
-unfolding run step outcome
-after-stored zero w = refl
-after-stored (suc n) w = after-stored n (step storeCall w)
-
--- a call with its stores is a list of calls
-abbrev storesAfter : Call → World → ℕ
-storesAfter call w =
-    cond (eqb (outcome call (w .memory) (w .disk) .number) 0) (storesLeft (outcome call (w .memory) (w .disk) .memory .pending)) 0
-
-pub carried-out : (call : Call) (w : World)
-    → carriedOut call (w .memory) (w .disk)
-    ≡ record { memory = run (call ∷ replicate (storesAfter call w) storeCall) w .memory; disk = run (call ∷ replicate (storesAfter call w) storeCall) w .disk }
-unfolding carriedOut completed run step
-carried-out call w = go (eqb (outcome call (w .memory) (w .disk) .number) 0) ∙ after-stored (storesAfter call w) (step call w)
-  where
-    after : World
-    after = step call w
-
-    go : (t : Bool)
-        → cond t (afterStores (storesLeft (after .memory .pending)) (after .memory) (after .disk)) (record { memory = after .memory; disk = after .disk })
-        ≡ afterStores (cond t (storesLeft (after .memory .pending)) 0) (after .memory) (after .disk)
-    go true = refl
-    go false = refl
+after-stored n w = sym (stores-in-turn n (w .memory) (w .disk)) ∙ after-calls (replicate n storeCall) w
 
 pub shaped-in-use : (w : World) → Invariant w → InUse w → Shaped (w .memory)
 shaped-in-use w i c = let related = i .related (c .is-valid) in record { slots = related .slots; sam = related .sam }

@@ -1,11 +1,11 @@
--- Stores that are accepted, one after the other: the disk and the memory that n of them leave, and the last one.
+-- Stores that are accepted, one after the other: the disk and the memory that n of them leave, and the last one. A call with its stores.
 use Prim.Native.Nat.{ℕ, zero, suc, _+_, _≤_, _<_}
 use native.Mathlib.Omega.{arith}
 use mathlib.Core.Path.{_≡_, refl, sym, ap, ap₂, _∙_, subst, subst₂}
 use mathlib.Core.Bool.{Bool, true, false, cond, true≢false}
 use mathlib.Core.Option.{Option, none}
 use mathlib.Core.List.{List, [], _∷_, _++_}
-use lib.ListN.{length, take, drop}
+use lib.ListN.{length, take, drop, replicate}
 use lib.Seq.{drop-drop}
 use lib.Dec.{eqb}
 use borrow.Author.Tests.{eqb-true, eqb-false, eq-eqb, ne-eqb}
@@ -21,7 +21,8 @@ use Rattle.model.specs.Disk.{diskBitmap, logEntries, nextDisk, dueStores
 use Rattle.bitmap.specs.Bits.{noBitsFrom}
 use Rattle.model.specs.Calls.Opening.{openError}
 use Rattle.model.specs.Calls.Storing.{advanced, nextStored, storeMemory, storeDisk}
-use Rattle.model.specs.Completion.{State, afterStores, StoresAccepted}
+use Rattle.model.specs.Outcome.{Call, Outcome, outcome, storeCall}
+use Rattle.model.specs.Completion.{State, afterCalls, afterStores, StoresAccepted, completed, carriedOut}
 use Rattle.model.proofs.Laws.Accepted.{StoreAccepted, store-accepted, accepted-store}
 use Rattle.model.proofs.Laws.Valid.{ValidParts, valid-parts}
 use Rattle.model.proofs.Laws.Writes.{writes-append}
@@ -186,3 +187,26 @@ stored-is (suc n) memory disk (here, later) =
         let q = eqb-false (storesDone (memory .pending) + 1) (storesDue (memory .pending)) e in
         one-more memory disk a (omega (arith, q, begun memory disk a)) n after
         (subst₂ (λ (m : Memory) (d : List ℕ). Stored n m d after) (goes-on memory disk a q) (next-is memory disk a) ih)
+
+-- ---- as calls made in turn
+
+pub stores-in-turn : (n : ℕ) (memory : Memory) (disk : List ℕ) → afterCalls (replicate n storeCall) memory disk ≡ afterStores n memory disk
+unfolding afterCalls outcome
+stores-in-turn zero memory disk = refl
+stores-in-turn (suc n) memory disk = stores-in-turn n (storeMemory memory disk) (storeDisk memory disk)
+
+-- a call with its stores: as many as are left if it is accepted, and else none
+pub carried-out : (call : Call) (memory : Memory) (disk : List ℕ)
+    → let after : Outcome = outcome call memory disk in
+    carriedOut call memory disk ≡ afterCalls (call ∷ replicate (cond (eqb (after .number) 0) (storesLeft (after .memory .pending)) 0) storeCall) memory disk
+unfolding carriedOut completed afterCalls
+carried-out call memory disk = go (eqb (outcome call memory disk .number) 0)
+  where
+    after : Outcome
+    after = outcome call memory disk
+
+    go : (t : Bool)
+        → cond t (afterStores (storesLeft (after .memory .pending)) (after .memory) (after .disk)) (record { memory = after .memory; disk = after .disk })
+        ≡ afterCalls (replicate (cond t (storesLeft (after .memory .pending)) 0) storeCall) (after .memory) (after .disk)
+    go true = sym (stores-in-turn (storesLeft (after .memory .pending)) (after .memory) (after .disk))
+    go false = refl
