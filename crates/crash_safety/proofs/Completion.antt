@@ -34,7 +34,7 @@ use Rattle.model.proofs.Laws.Valid.{valid-parts}
 use Rattle.model.proofs.Laws.Pending.{unfinished}
 use Rattle.model.proofs.Laws.Committed.{committed-bitmap}
 use Rattle.model.proofs.Laws.DueStores.{due-length}
-use Rattle.model.proofs.Laws.Progress.{some-left, one-fewer, finished-pending, committing-begun, begun-finished, begun-left, by-finish, by-store, by-begin}
+use Rattle.model.proofs.Laws.Progress.{some-left, one-fewer, finished-pending, finished-none, committing-begun, begun-finished, begun-left, by-finish, by-store, by-begin}
 use Rattle.model.proofs.Laws.Stored.{stored-memory, stored-disk, stored-is, stores-in-turn}
 use Rattle.crash_safety.specs.World.{World, step, run}
 use Rattle.crash_safety.specs.InOrder.{Consistent, InUse, Completes}
@@ -61,11 +61,6 @@ store-left memory p n e = go (eqb (storesDone p + 1) (storesDue p)) refl
         → storesLeft (cond t (finished memory p) (withPending memory (oneMoreDone p)) .pending) ≡ n
     go true q = ap storesLeft (finished-pending memory p (some-left p n e)) ∙ omega (arith, eqb-true (storesDone p + 1) (storesDue p) q, e)
     go false q = one-fewer p n e
-
--- where nothing is pending nothing is finished
-finished-none : (memory : Memory) (p : Pending) → p ≡ Nothing → finished memory p ≡ memory
-unfolding finished
-finished-none memory p e = ap (finished memory) e
 
 -- the list has no more stores than are left
 few-left : (memory : Memory) (disk : List ℕ) → Consistent memory disk

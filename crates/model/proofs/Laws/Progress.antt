@@ -65,12 +65,27 @@ finished-pending memory Nothing n = absurd (true≢false n)
 finished-pending memory (Commit s done due) n = refl
 finished-pending memory (Recovery done due) n = refl
 
--- what it makes doesn't ask how many are done
+-- what it makes doesn't ask what was pending,
+finished-any : (memory : Memory) (was p : Pending) → isNothing p ≡ false → finished (withPending memory was) p ≡ finished memory p
+unfolding isNothing finished committed committedSam refreshed
+finished-any memory was Nothing n = absurd (true≢false n)
+finished-any memory was (Commit s done due) n = refl
+finished-any memory was (Recovery done due) n = refl
+
+-- nor how many are done
+finished-more : (memory : Memory) (p : Pending) → finished memory (oneMoreDone p) ≡ finished memory p
+unfolding oneMoreDone finished
+finished-more memory Nothing = refl
+finished-more memory (Commit s done due) = refl
+finished-more memory (Recovery done due) = refl
+
 pub finished-later : (memory : Memory) (p : Pending) → isNothing p ≡ false → finished (withPending memory (oneMoreDone p)) (oneMoreDone p) ≡ finished memory p
-unfolding isNothing oneMoreDone finished committed committedSam refreshed
-finished-later memory Nothing n = absurd (true≢false n)
-finished-later memory (Commit s done due) n = refl
-finished-later memory (Recovery done due) n = refl
+finished-later memory p n = finished-more (withPending memory (oneMoreDone p)) p ∙ finished-any memory (oneMoreDone p) p n
+
+-- where nothing is pending nothing is finished
+pub finished-none : (memory : Memory) (p : Pending) → p ≡ Nothing → finished memory p ≡ memory
+unfolding finished
+finished-none memory p e = ap (finished memory) e
 
 -- ---- how it begins
 
@@ -87,11 +102,10 @@ committing-begun memory s = go (eqb (changedOf memory s) 0) (length (commitStore
 
 -- work that begins is finished by what it makes, with stores or without
 pub begun-finished : (memory : Memory) (p : Pending) → isNothing p ≡ false → finished (begun memory p) (begun memory p .pending) ≡ finished memory p
-unfolding begun isNothing finished committed committedSam refreshed
-begun-finished memory Nothing n = absurd (true≢false n)
-begun-finished memory (Commit s done due) n = either (λ (m : Memory). finished m (m .pending) ≡ committed memory s) (eqb (storesDue (Commit s done due)) 0) refl refl
-begun-finished memory (Recovery done due) n =
-    either (λ (m : Memory). finished m (m .pending) ≡ withPending memory Nothing) (eqb (storesDue (Recovery done due)) 0) refl refl
+unfolding begun
+begun-finished memory p n =
+    either (λ (m : Memory). finished m (m .pending) ≡ finished memory p) (eqb (storesDue p) 0)
+    (finished-none (finished memory p) _ (finished-pending memory p n)) (finished-any memory p p n)
 
 -- and has as many stores left as are due
 pub begun-left : (memory : Memory) (p : Pending) → isNothing p ≡ false → storesDone p ≡ 0 → storesLeft (begun memory p .pending) ≡ storesDue p
