@@ -10,6 +10,7 @@ use Rattle.model_types.specs.declared.memory.Pending.{Pending}
 use Rattle.model.specs.Outcome.{Call, outcome, openCall, storeCall, crashCall}
 use Rattle.model.specs.Work.{Work, openWork, crashWork, storeWork, beginWork, changeWork}
 use Rattle.model.proofs.Laws.Work.{Made, Fails}
+use Rattle.model.proofs.Laws.Progress.{either}
 use Rattle.crash_safety.specs.Ledger.{Ledger, Counting, crashed, enter, entered, enterAll, stores}
 use Rattle.crash_safety.specs.World.{World, events, step, run, Without}
 use Rattle.crash_safety.proofs.Works.{told, change-told, after, by-failing}
@@ -36,22 +37,16 @@ module _ (allocated : List ℕ) (w : World) where
   -- and so does an open, which is a crash first
   pub open-settles : w .ledger .allocated ≡ allocated → Settled allocated (step openCall w .ledger)
   unfolding step events enterAll outcome enter entered crashed
-  open-settles e = go (eqb (outcome openCall (w .memory) (w .disk) .number) 0)
-    where
-      go : (t : Bool) → Settled allocated (cond t (crashed (crashed (w .ledger))) (crashed (w .ledger)))
-      go true = record { same = e; uncounted = refl }
-      go false = record { same = e; uncounted = refl }
+  open-settles e =
+      either (Settled allocated) (eqb (outcome openCall (w .memory) (w .disk) .number) 0)
+      (record { same = e; uncounted = refl }) (record { same = e; uncounted = refl })
 
   -- a store leaves it so
   store-settled : Settled allocated (w .ledger) → Settled allocated (step storeCall w .ledger)
   unfolding step events enterAll outcome enter entered stores
   store-settled s =
       subst (λ (c : Option Counting). Settled allocated (cond (eqb (outcome storeCall (w .memory) (w .disk) .number) 0) (stores (w .ledger) c) (w .ledger)))
-      (sym (s .uncounted)) (go (eqb (outcome storeCall (w .memory) (w .disk) .number) 0))
-    where
-      go : (t : Bool) → Settled allocated (cond t (w .ledger) (w .ledger))
-      go true = s
-      go false = s
+      (sym (s .uncounted)) (either (Settled allocated) (eqb (outcome storeCall (w .memory) (w .disk) .number) 0) s s)
 
 pub stores-settled : (n : ℕ) (w : World) (allocated : List ℕ) → Settled allocated (w .ledger) → Settled allocated (run (replicate n storeCall) w .ledger)
 unfolding run

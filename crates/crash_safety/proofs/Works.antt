@@ -2,7 +2,7 @@
 -- fed calls and answers alone (specs/World.antt, `events`); that this comes to the following, work by work, is a law of all calls.
 use Prim.Native.Nat.{ℕ}
 use mathlib.Core.Path.{_≡_, refl, sym, ap, ap₂, _∙_, subst}
-use mathlib.Core.Bool.{Bool, true, false, cond}
+use mathlib.Core.Bool.{Bool, cond}
 use mathlib.Core.Option.{Option, none, some}
 use mathlib.Core.List.{List, [], _∷_, _++_}
 use lib.ListN.{length, take, drop, getD}
@@ -30,6 +30,7 @@ use Rattle.model.specs.Calls.Reserve.{reserveAnswer}
 use Rattle.model.specs.Outcome.{Call, Outcome, outcome, openCall, startCall, allocateCall, allocateExtentCall, deallocateCall, precommitCall, commitCall, dropCall, revokeCall, storeCall, statusCall, commitCostCall, reserveCall, crashCall}
 use Rattle.model.specs.Work.{Change, startChange, precommitChange, dropChange, revokeChange, grantChange, freeChange, reserveChange, Work, openWork, crashWork, storeWork, beginWork, changeWork, worked, workedDisk, workedAll, works, worksIn}
 use Rattle.model.proofs.Laws.Numbers.{numberOf, code-positive, done-number, grant-number, stores-number}
+use Rattle.model.proofs.Laws.Progress.{either}
 use Rattle.model.proofs.Laws.Granting.{Grants, allocate-grants, allocate-extent-grants}
 use Rattle.model.proofs.Laws.Work.{EachWork, each-fails, Fails, Made, SomeMade, does, calls-made}
 use Rattle.crash_safety.specs.Ledger.{Event, Kind, Sets, noSets, Ledger, setsOf, withSets, frees, enter, entered, enterAll, takes, crashEvent, opening, starting, allocating, deallocating, precommitting, committing, rolling, storing, asking, reserving}
@@ -57,11 +58,7 @@ enter-crash ledger = enter-accepted crashEvent ledger refl
 -- a question alters nothing, refused or not
 asked-nothing : (s : ℕ) (after : Outcome) (ledger : Ledger) → enter (eventOf asking s 0 after) ledger ≡ ledger
 unfolding enter entered
-asked-nothing s after ledger = either-way (eqb (after .number) 0)
-  where
-    either-way : (t : Bool) → cond t ledger ledger ≡ ledger
-    either-way true = refl
-    either-way false = refl
+asked-nothing s after ledger = either (λ (l : Ledger). l ≡ ledger) (eqb (after .number) 0) refl refl
 
 -- the numbers listed are the blocks granted
 pub listed : (error : Option Error) (count : ℕ) (blocks list : List ℕ) → error ≡ none → length blocks ≡ count

@@ -2,7 +2,7 @@
 use Prim.Native.Nat.{ℕ}
 use mathlib.Core.Path.{_≡_, refl, sym, ap, _∙_, subst}
 use mathlib.Core.Logic.{_⊎_, inl, inr, ⊎-elim}
-use mathlib.Core.Bool.{Bool, true, false, false≢true, true≢false}
+use mathlib.Core.Bool.{Bool, true, false, false≢true}
 use mathlib.Core.Option.{Option, none}
 use mathlib.Core.List.{List, [], _∷_}
 use Rattle.model_types.specs.declared.error.Error.{Error}
@@ -14,7 +14,7 @@ use Rattle.model.specs.Pending.{begun}
 use Rattle.model.specs.Valid.{valid}
 use Rattle.model.specs.Calls.Opening.{openError, opened, openMemory}
 use Rattle.model.specs.Calls.Format.{formatDisk}
-use Rattle.model.specs.Outcome.{Call, outcome, openCall, storeCall, crashCall}
+use Rattle.model.specs.Outcome.{Call, outcome, openCall, crashCall}
 use Rattle.model.specs.Work.{Work, openWork, crashWork, storeWork, beginWork, changeWork, worked, workedDisk}
 use Rattle.crash_safety.specs.World.{World, begin, step, run, Without}
 use Rattle.model.proofs.Laws.DiskParts.{opens-parts}
@@ -77,10 +77,6 @@ step-uses call w i c = by-call (λ v. Invariant v × ((call ≡ crashCall) ⊎ I
         → Invariant (after new v) × ((call ≡ crashCall) ⊎ InUse (after new v))
     one v new m (k, uses) =
         (work-keeps v call new m k, ⊎-elim inl (λ u. ⊎-elim (λ e. inl (crashes v new k m e)) inr (work-uses v k (λ _. u) call new m)) uses)
-
--- a store too
-pub store-uses : (w : World) → Invariant w → InUse w → InUse (step storeCall w)
-store-uses w i c = ⊎-elim (λ e. absurd (true≢false (cc))) (λ u. u) (step-uses storeCall w i c)
 
 pub run-uses : (calls : List Call) (w : World) → NoCrash calls → Invariant w → InUse w → InUse (run calls w)
 unfolding run
