@@ -71,7 +71,7 @@ step-uses call w i c = by-call (λ v. Invariant v × ((call ≡ crashCall) ⊎ I
   where
     -- only a crash does a crash, since no open is refused
     crashes : (v : World) (new : Work) → Invariant v → Made call new (v .memory) (v .disk) → new ≡ crashWork → call ≡ crashCall
-    crashes v new k m e = ⊎-elim (λ q. q) (λ n. absurd (n (k .opens))) (subst (λ (x : Work). Made call x (v .memory) (v .disk)) e m)
+    crashes v new k m e = ⊎-elim (λ q. q) (λ n. absurd (n .1 (k .opens))) (subst (λ (x : Work). Made call x (v .memory) (v .disk)) e m)
 
     one : (v : World) (new : Work) → Made call new (v .memory) (v .disk) → Invariant v × ((call ≡ crashCall) ⊎ InUse v)
         → Invariant (after new v) × ((call ≡ crashCall) ⊎ InUse (after new v))

@@ -2,7 +2,7 @@
 -- here, once for all theorems.
 use Prim.Native.Nat.{ℕ}
 use mathlib.Core.Path.{_≡_, refl, sym, ap, ap₂, _∙_, subst, subst₂}
-use mathlib.Core.Logic.{_⊎_, inl, inr}
+use mathlib.Core.Logic.{_⊎_, inl, inr, ⊎-elim}
 use mathlib.Core.Bool.{Bool, true, false, _||_, true≢false}
 use mathlib.Core.Option.{Option, none, some}
 use mathlib.Core.List.{List, [], _∷_, _++_}
@@ -119,7 +119,7 @@ by-begun P memory commit (Recovery done due) made = absurd made
 -- and what a work tells. Only a crash tells which call it was
 abbrev pub Made : Call → Work → Memory → List ℕ → Type 0
 Made call openWork memory disk = openError disk ≡ none
-Made call crashWork memory disk = (call ≡ crashCall) ⊎ (openError disk ≡ none → ⊥)
+Made call crashWork memory disk = (call ≡ crashCall) ⊎ ((call ≡ openCall) × (openError disk ≡ none → ⊥))
 Made call storeWork memory disk = StoreAccepted memory disk
 Made call (beginWork new) memory disk = BeginMade new memory
 Made call (changeWork s change) memory disk = Ready memory s × ChangeMade change memory s
@@ -156,66 +156,58 @@ module _ (call : Call) (memory : Memory) (disk : List ℕ) where
 
 -- ---- a call made of several
 
--- each work was made by a call
-abbrev pub SomeMade : Work → Memory → List ℕ → Type 0
-SomeMade new memory disk = (call : Call) × Made call new memory disk
+-- each of these calls is so, and, made in turn, does its works
+abbrev pub InTurn : (Call → Type 0) → List Call → Memory → List ℕ → Type 0
+InTurn Is [] memory disk = Unit {0}
+InTurn Is (call ∷ calls) memory disk =
+    Is call × Does call memory disk (works call memory disk) × InTurn Is calls (outcome call memory disk .memory) (outcome call memory disk .disk)
 
--- each of these calls, made in turn, does its works
-abbrev pub InTurn : List Call → Memory → List ℕ → Type 0
-InTurn [] memory disk = Unit {0}
-InTurn (call ∷ calls) memory disk =
-    Does call memory disk (works call memory disk) × InTurn calls (outcome call memory disk .memory) (outcome call memory disk .disk)
+module _ (Is : Call → Type 0) where
+  -- what each call tells of its works holds of all these works,
+  turn-told : (Told : Work → Memory → List ℕ → Type 0)
+      → ((call : Call) → Is call → (new : Work) (memory : Memory) (disk : List ℕ) → Made call new memory disk → Told new memory disk)
+      → (calls : List Call) (memory : Memory) (disk : List ℕ) → InTurn Is calls memory disk → EachWork Told (worksIn calls memory disk) memory disk
+  unfolding worksIn
+  turn-told Told one [] memory disk turn = tt
+  turn-told Told one (call ∷ calls) memory disk (is, d, later) =
+      let all : List Work = works call memory disk in
+      let next : List Work = worksIn calls (outcome call memory disk .memory) (outcome call memory disk .disk) in
+      each-append next Told all memory disk (each-is (Made call) Told (one call is) all memory disk (d .made))
+      (subst₂ (EachWork Told next) (d .leaves) (d .writes) (turn-told Told one calls (outcome call memory disk .memory) (outcome call memory disk .disk) later))
 
--- so all these works were made,
-turn-made : (calls : List Call) (memory : Memory) (disk : List ℕ) → InTurn calls memory disk → EachWork SomeMade (worksIn calls memory disk) memory disk
-unfolding worksIn
-turn-made [] memory disk turn = tt
-turn-made (call ∷ calls) memory disk (d, later) =
-    let all : List Work = works call memory disk in
-    let next : List Work = worksIn calls (outcome call memory disk .memory) (outcome call memory disk .disk) in
-    each-append next SomeMade all memory disk (each-is (Made call) SomeMade (λ new m disk made. (call, made)) all memory disk (d .made))
-    (subst₂ (EachWork SomeMade next) (d .leaves) (d .writes) (turn-made calls (outcome call memory disk .memory) (outcome call memory disk .disk) later))
+  -- and they leave what the calls leave
+  turn-leaves : (calls : List Call) (memory : Memory) (disk : List ℕ) → InTurn Is calls memory disk
+      → afterCalls calls memory disk ≡ workedAll (worksIn calls memory disk) memory disk
+  unfolding worksIn afterCalls workedAll
+  turn-leaves [] memory disk turn = refl
+  turn-leaves (call ∷ calls) memory disk (is, d, later) =
+      let next : List Work = worksIn calls (outcome call memory disk .memory) (outcome call memory disk .disk) in
+      turn-leaves calls (outcome call memory disk .memory) (outcome call memory disk .disk) later
+      ∙ ap₂ (workedAll next) (d .leaves) (d .writes)
+      ∙ sym (worked-append next (works call memory disk) memory disk)
 
--- and leave what the calls leave
-turn-leaves : (calls : List Call) (memory : Memory) (disk : List ℕ) → InTurn calls memory disk
-    → afterCalls calls memory disk ≡ workedAll (worksIn calls memory disk) memory disk
-unfolding worksIn afterCalls workedAll
-turn-leaves [] memory disk turn = refl
-turn-leaves (call ∷ calls) memory disk (d, later) =
-    let next : List Work = worksIn calls (outcome call memory disk .memory) (outcome call memory disk .disk) in
-    turn-leaves calls (outcome call memory disk .memory) (outcome call memory disk .disk) later
-    ∙ ap₂ (workedAll next) (d .leaves) (d .writes)
-    ∙ sym (worked-append next (works call memory disk) memory disk)
+-- neither an open nor a crash: only these do a crash, which alone tells the call that made it
+abbrev pub WithinUse : Call → Type 0
+WithinUse call = (call ≡ openCall → ⊥) × (call ≡ crashCall → ⊥)
 
--- whether a work is a crash, which alone tells the call that made it
-unfoldable pub isCrash : Work → Pending → Bool
-isCrash openWork pending = false
-isCrash crashWork pending = true
-isCrash storeWork pending = false
-isCrash (beginWork new) pending = false
-isCrash (changeWork s change) pending = false
+made-by : (call other : Call) → WithinUse other → (new : Work) (memory : Memory) (disk : List ℕ) → Made other new memory disk → Made call new memory disk
+made-by call other within openWork memory disk made = made
+made-by call other within crashWork memory disk made = ⊎-elim (λ e. absurd (within .1 e)) (λ refused. absurd (within .0 (refused .0))) made
+made-by call other within storeWork memory disk made = made
+made-by call other within (beginWork new) memory disk made = made
+made-by call other within (changeWork s change) memory disk made = made
 
-made-by : (call : Call) (new : Work) (memory : Memory) (disk : List ℕ) → SomeMade new memory disk × Fails isCrash new memory → Made call new memory disk
-unfolding isCrash
-made-by call openWork memory disk (made, f) = made .1
-made-by call crashWork memory disk (made, f) = absurd (true≢false f)
-made-by call storeWork memory disk (made, f) = made .1
-made-by call (beginWork new) memory disk (made, f) = made .1
-made-by call (changeWork s change) memory disk (made, f) = made .1
-
--- a call that leaves what several leave in turn, none of them a crash, does their works: one clause of `does` below
-pub made-of : (call : Call) (calls : List Call) (memory : Memory) (disk : List ℕ) → InTurn calls memory disk
-    → someWork isCrash (worksIn calls memory disk) memory disk ≡ false
+-- a call that leaves what several of them leave in turn does their works: one clause of `does` below
+pub made-of : (call : Call) (calls : List Call) (memory : Memory) (disk : List ℕ) → InTurn WithinUse calls memory disk
     → outcome call memory disk .memory ≡ afterCalls calls memory disk .memory
     → outcome call memory disk .disk ≡ afterCalls calls memory disk .disk
     → Does call memory disk (worksIn calls memory disk)
-made-of call calls memory disk turn none-crashes leaves writes =
-    let all : List Work = worksIn calls memory disk in
-    let same = turn-leaves calls memory disk turn in
+made-of call calls memory disk turn leaves writes =
+    let same = turn-leaves WithinUse calls memory disk turn in
     record {
       leaves = leaves ∙ ap (λ (x : State). x .memory) same;
       writes = writes ∙ ap (λ (x : State). x .disk) same;
-      made = each-is _ (Made call) (made-by call) all memory disk (each-fails SomeMade isCrash all memory disk (turn-made calls memory disk turn) none-crashes);
+      made = turn-told WithinUse (Made call) (made-by call) calls memory disk turn;
     }
 
 -- ---- each call
@@ -232,7 +224,7 @@ open-does : (memory : Memory) (disk : List ℕ) (error : Option Error) → openE
     → Does openCall memory disk (unlessRefused error (openWork ∷ []) (crashWork ∷ []))
 unfolding unlessRefused worked workedDisk workedAll
 open-does memory disk none e leaves writes = record { leaves = leaves; writes = writes; made = (e, tt) }
-open-does memory disk (some x) e leaves writes = record { leaves = leaves; writes = writes; made = (inr (λ f. true≢false (cc)), tt) }
+open-does memory disk (some x) e leaves writes = record { leaves = leaves; writes = writes; made = (inr (refl, λ f. true≢false (cc)), tt) }
 
 pub does : (call : Call) (memory : Memory) (disk : List ℕ) → Does call memory disk (works call memory disk)
 unfolding works outcome worked workedDisk workedAll changed openMemory startMemory allocateMemory allocateExtentMemory deallocateMemory precommitMemory commitMemory dropMemory revokeMemory storeMemory storeDisk reserveMemory
@@ -255,13 +247,16 @@ does crashCall memory disk = record { leaves = refl; writes = refl; made = (inl 
 
 -- ---- calls in turn
 
-pub calls-do : (calls : List Call) (memory : Memory) (disk : List ℕ) → InTurn calls memory disk
+calls-do : (calls : List Call) (memory : Memory) (disk : List ℕ) → InTurn (λ _. Unit {0}) calls memory disk
 calls-do [] memory disk = tt
-calls-do (call ∷ calls) memory disk = (does call memory disk, calls-do calls (outcome call memory disk .memory) (outcome call memory disk .disk))
+calls-do (call ∷ calls) memory disk = (tt, does call memory disk, calls-do calls (outcome call memory disk .memory) (outcome call memory disk .disk))
 
--- their works were made
+-- each of their works was made by a call
+abbrev pub SomeMade : Work → Memory → List ℕ → Type 0
+SomeMade new memory disk = (call : Call) × Made call new memory disk
+
 pub calls-made : (calls : List Call) (memory : Memory) (disk : List ℕ) → EachWork SomeMade (worksIn calls memory disk) memory disk
-calls-made calls memory disk = turn-made calls memory disk (calls-do calls memory disk)
+calls-made calls memory disk = turn-told (λ _. Unit {0}) SomeMade (λ call _ new m d made. (call, made)) calls memory disk (calls-do calls memory disk)
 
 -- ---- what works keep
 
