@@ -92,14 +92,18 @@ premises =
     ∷ passing movesCursor three busyCalls
     ∷ passing (changesReservation 1) three idleCalls
     ∷ passing (changesReservation 1) three busyCalls
+    ∷ passing (changesReservation 3) three busyCalls
     ∷ passing (changesTogether 1) three busyCalls
+    ∷ passing (changesTogether 3) three busyCalls
     ∷ passing (changesTogether 1) pendingCommit ((storeCall ∷ []) ∷ (allocateCall 1 1 list64 ∷ []) ∷ [])
     ∷ passing (changesTogether 2) pendingCommit ((storeCall ∷ []) ∷ [])
     ∷ passing (settles 1) three idleCalls
     ∷ passing (settles 1) three busyCalls
+    ∷ passing (settles 3) three busyCalls
     ∷ passing (endsWaiting 3) three idleCalls
     ∷ passing (endsWaiting 3) three busyCalls
     ∷ passing (endsWaiting 1) three busyCalls
+    ∷ passing (endsWaiting 2) three busyCalls
     ∷ passing endsUse three idleCalls
     ∷ passing endsUse three busyCalls
     ∷ passing beginsPending cutBehindPoint recovered
@@ -111,20 +115,25 @@ premisesExpected =
     -- the cursor moves: an open, a crash, and each grant
     (0 ∷ 0 ∷ 0 ∷ [])
     ∷ (1 ∷ 1 ∷ 1 ∷ 1 ∷ 0 ∷ 0 ∷ 0 ∷ 0 ∷ 1 ∷ 0 ∷ [])
-    -- slot 1's reservation changes: an open, a crash, its own grant and drop
+    -- slot 1's reservation changes: an open, a crash, its own grant and drop; slot 3's by its revoke
     ∷ (0 ∷ 0 ∷ 0 ∷ [])
     ∷ (1 ∷ 1 ∷ 1 ∷ 0 ∷ 1 ∷ 0 ∷ 0 ∷ 0 ∷ 1 ∷ 0 ∷ [])
-    -- what it has reserved and drawn changes: an open, a crash, and its commit, with its stores
+    ∷ (1 ∷ 1 ∷ 0 ∷ 0 ∷ 0 ∷ 1 ∷ 0 ∷ 0 ∷ 0 ∷ 0 ∷ [])
+    -- what it has reserved and drawn changes: an open, a crash, and its commit, with its stores; not by a drop, nor slot 3's by its revoke
     ∷ (1 ∷ 1 ∷ 0 ∷ 0 ∷ 0 ∷ 0 ∷ 0 ∷ 1 ∷ 1 ∷ 0 ∷ [])
+    ∷ (1 ∷ 1 ∷ 0 ∷ 0 ∷ 0 ∷ 0 ∷ 1 ∷ 0 ∷ 0 ∷ 0 ∷ [])
     ∷ (1 ∷ 0 ∷ [])
     ∷ (0 ∷ [])
+    -- and the same end a promise that it is put back whole, but no store does
     ∷ (0 ∷ 0 ∷ 0 ∷ [])
     ∷ (1 ∷ 1 ∷ 0 ∷ 0 ∷ 0 ∷ 0 ∷ 0 ∷ 1 ∷ 1 ∷ 0 ∷ [])
+    ∷ (1 ∷ 1 ∷ 0 ∷ 0 ∷ 0 ∷ 0 ∷ 1 ∷ 0 ∷ 0 ∷ 0 ∷ [])
     -- slot 3's waiting ends: an open, a crash, its revoke and its commit
     ∷ (0 ∷ 0 ∷ 0 ∷ [])
     ∷ (1 ∷ 1 ∷ 0 ∷ 0 ∷ 0 ∷ 1 ∷ 1 ∷ 0 ∷ 0 ∷ 0 ∷ [])
-    -- and slot 1's would, not by a drop of it
+    -- and slot 1's would, not by a drop of it; nor slot 2's by a drop, a reserve and a start
     ∷ (1 ∷ 1 ∷ 0 ∷ 0 ∷ 0 ∷ 0 ∷ 0 ∷ 1 ∷ 1 ∷ 0 ∷ [])
+    ∷ (1 ∷ 1 ∷ 0 ∷ 0 ∷ 0 ∷ 0 ∷ 0 ∷ 0 ∷ 0 ∷ 0 ∷ [])
     -- the use ends
     ∷ (0 ∷ 0 ∷ 0 ∷ [])
     ∷ (1 ∷ 1 ∷ 0 ∷ 0 ∷ 0 ∷ 0 ∷ 0 ∷ 0 ∷ 0 ∷ 0 ∷ [])
