@@ -75,32 +75,32 @@ few-left memory disk c =
 
 -- ---- store calls, one after the other
 
--- the shape that the types give a memory: eight slots, and a SAM of 128 words of 32 bits
-pub record Shaped (memory : Memory) : Type 0 where
+-- eight slots, and a SAM of 128 words of 32 bits, as the types give a memory
+pub record Sized (memory : Memory) : Type 0 where
   pub slots : length (memory .slots) ≡ slotCount
   pub sam : IsBitmap (memory .sam .words)
 
-committed-shaped : (memory : Memory) (s : ℕ) → Shaped memory → Shaped (committed memory s)
+committed-sized : (memory : Memory) (s : ℕ) → Sized memory → Sized (committed memory s)
 unfolding committed
-committed-shaped memory s shaped =
+committed-sized memory s sized =
     let refresh = refreshed memory (committedSam memory s) in
     record {
-      slots = length-set (map refresh (memory .slots)) s idleSlot ∙ length-map (memory .slots) refresh ∙ shaped .slots;
+      slots = length-set (map refresh (memory .slots)) s idleSlot ∙ length-map (memory .slots) refresh ∙ sized .slots;
       sam = committed-bitmap memory s;
     }
 
-pending-shaped : (memory : Memory) (pending : Pending) → Shaped memory → Shaped (withPending memory pending)
-pending-shaped memory pending shaped = record { slots = shaped .slots; sam = shaped .sam }
+pending-sized : (memory : Memory) (pending : Pending) → Sized memory → Sized (withPending memory pending)
+pending-sized memory pending sized = record { slots = sized .slots; sam = sized .sam }
 
-module _ (memory : Memory) (shaped : Shaped memory) where
-  finished-shaped : (p : Pending) → Shaped (finished memory p)
-  finished-shaped p = by-finish Shaped memory shaped (pending-shaped memory Nothing shaped) p (λ t _ _ _. committed-shaped memory t shaped)
+module _ (memory : Memory) (sized : Sized memory) where
+  finished-sized : (p : Pending) → Sized (finished memory p)
+  finished-sized p = by-finish Sized memory sized (pending-sized memory Nothing sized) p (λ t _ _ _. committed-sized memory t sized)
 
-  advanced-shaped : (p : Pending) → Shaped (advanced memory p)
-  advanced-shaped p = by-store Shaped memory p (finished-shaped p) (pending-shaped memory (oneMoreDone p) shaped)
+  advanced-sized : (p : Pending) → Sized (advanced memory p)
+  advanced-sized p = by-store Sized memory p (finished-sized p) (pending-sized memory (oneMoreDone p) sized)
 
-  begun-shaped : (p : Pending) → Shaped (begun memory p)
-  begun-shaped p = by-begin Shaped memory p (finished-shaped p) (pending-shaped memory p shaped)
+  begun-sized : (p : Pending) → Sized (begun memory p)
+  begun-sized p = by-begin Sized memory p (finished-sized p) (pending-sized memory p sized)
 
 -- in order, a store is refused only where nothing is pending
 store-passes : (memory : Memory) (disk : List ℕ) → Consistent memory disk → isNothing (memory .pending) ≡ false → StoreAccepted memory disk
@@ -112,16 +112,16 @@ pub record Ended (n : ℕ) (memory : Memory) (disk : List ℕ) : Type 0 where
   pub ended : afterStores n memory disk .memory .pending ≡ Nothing
 
 -- as many stores as are left are accepted, and then nothing is pending
-pub ends : (n : ℕ) (memory : Memory) (disk : List ℕ) → Shaped memory → Consistent memory disk → storesLeft (memory .pending) ≡ n → Ended n memory disk
-ends zero memory disk shaped c e =
+pub ends : (n : ℕ) (memory : Memory) (disk : List ℕ) → Sized memory → Consistent memory disk → storesLeft (memory .pending) ≡ n → Ended n memory disk
+ends zero memory disk sized c e =
     record { accepted = tt; consistent = c; ended = none-left memory (memory .pending) (valid-parts memory (c .is-valid) .pending-valid) e }
-ends (suc n) memory disk shaped c e =
+ends (suc n) memory disk sized c e =
     let a = store-passes memory disk c (some-left (memory .pending) n e) in
     let memory-is = stored-memory memory disk a in
     let next : Consistent (storeMemory memory disk) (storeDisk memory disk) =
-    subst₂ Consistent (sym memory-is) (sym (stored-disk memory disk a)) (store-consistent memory disk (shaped .slots) (shaped .sam) c a) in
+    subst₂ Consistent (sym memory-is) (sym (stored-disk memory disk a)) (store-consistent memory disk (sized .slots) (sized .sam) c a) in
     let rest =
-    ends n (storeMemory memory disk) (storeDisk memory disk) (subst Shaped (sym memory-is) (advanced-shaped memory shaped (memory .pending))) next
+    ends n (storeMemory memory disk) (storeDisk memory disk) (subst Sized (sym memory-is) (advanced-sized memory sized (memory .pending))) next
     (ap (λ (m : Memory). storesLeft (m .pending)) memory-is ∙ store-left memory (memory .pending) n e) in
     record { accepted = (accepted-store memory disk a, rest .accepted); consistent = rest .consistent; ended = rest .ended }
 
@@ -133,11 +133,11 @@ pub record Finishes (memory : Memory) (disk : List ℕ) : Type 0 where
   pub leaves : completed memory disk .memory ≡ finished memory (memory .pending)
   pub written : completed memory disk .disk ≡ writes (drop (storesDone (memory .pending)) (dueStores memory disk (memory .pending))) disk
 
-pub finishes : (memory : Memory) (disk : List ℕ) → Shaped memory → Consistent memory disk → Finishes memory disk
+pub finishes : (memory : Memory) (disk : List ℕ) → Sized memory → Consistent memory disk → Finishes memory disk
 unfolding completed
-finishes memory disk shaped c =
+finishes memory disk sized c =
     let n : ℕ = storesLeft (memory .pending) in
-    let d = ends n memory disk shaped c refl in
+    let d = ends n memory disk sized c refl in
     let is = stored-is n memory disk (d .accepted) in
     record {
       completes = record { accepted = d .accepted; ended = d .ended; consistent = d .consistent };
@@ -165,11 +165,11 @@ pub record BegunFinishes (memory : Memory) (disk : List ℕ) (new : Pending) : T
   pub consistent : Consistent (finished memory new) (completed (begun memory new) disk .disk)
 
 pub begun-finishes : (memory : Memory) (disk : List ℕ) (new : Pending) → isNothing new ≡ false → storesDone new ≡ 0
-    → Shaped memory
+    → Sized memory
     → Consistent (begun memory new) disk
     → BegunFinishes memory disk new
-begun-finishes memory disk new some none-done shaped c =
-    let f = finishes (begun memory new) disk (begun-shaped memory shaped new) c in
+begun-finishes memory disk new some none-done sized c =
+    let f = finishes (begun memory new) disk (begun-sized memory sized new) c in
     let leaves = f .leaves ∙ begun-finished memory new some in
     record {
       accepted = subst (λ (n : ℕ). StoresAccepted n (begun memory new) disk) (begun-left memory new some none-done) (f .completes .accepted);
@@ -198,12 +198,12 @@ module _ (memory : Memory) (disk : List ℕ) (s : ℕ) where
       (record { memory = unlessRefused x (committing memory s) memory; disk = disk })) e
       ∙ ap (λ (m : Memory). completed m disk) (committing-begun memory s)
 
-  pub commit-finishes : Shaped memory → Consistent memory disk → commitError memory s ≡ none → CommitFinishes
+  pub commit-finishes : Sized memory → Consistent memory disk → commitError memory s ≡ none → CommitFinishes
   unfolding storesDue storesDone isNothing finished
-  commit-finishes shaped c e =
+  commit-finishes sized c e =
       let same = committing-begun memory s in
-      let begins = commit-consistent memory disk s (shaped .slots) (shaped .sam) c (commit-accepted memory s e) in
-      let f = begun-finishes memory disk commitOf refl refl shaped (subst (λ (m : Memory). Consistent m disk) same begins) in
+      let begins = commit-consistent memory disk s (sized .slots) (sized .sam) c (commit-accepted memory s e) in
+      let f = begun-finishes memory disk commitOf refl refl sized (subst (λ (m : Memory). Consistent m disk) same begins) in
       let out = commit-carried e in
       record {
         accepted = subst (λ (m : Memory). StoresAccepted (commitDue memory s) m disk) (sym same) (f .accepted);
@@ -225,8 +225,8 @@ after-calls (call ∷ calls) w = after-calls calls (step call w)
 pub after-stored : (n : ℕ) (w : World) → afterStores n (w .memory) (w .disk) ≡ record { memory = stored n w .memory; disk = stored n w .disk }
 after-stored n w = sym (stores-in-turn n (w .memory) (w .disk)) ∙ after-calls (replicate n storeCall) w
 
-pub shaped-in-use : (w : World) → Invariant w → InUse w → Shaped (w .memory)
-shaped-in-use w i c = let related = i .related (c .is-valid) in record { slots = related .slots; sam = related .sam }
+pub sized-in-use : (w : World) → Invariant w → InUse w → Sized (w .memory)
+sized-in-use w i c = let related = i .related (c .is-valid) in record { slots = related .slots; sam = related .sam }
 
 pub completes : (w : World) → Invariant w → InUse w → Completes (w .memory) (w .disk)
-completes w i c = finishes (w .memory) (w .disk) (shaped-in-use w i c) c .completes
+completes w i c = finishes (w .memory) (w .disk) (sized-in-use w i c) c .completes

@@ -26,7 +26,7 @@ use Rattle.crash_safety.proofs.Invariant.{Invariant}
 use Rattle.crash_safety.proofs.Crash.{open-memory}
 use Rattle.crash_safety.proofs.Keeps.{step-keeps, run-keeps, begins-formatted}
 use Rattle.crash_safety.proofs.InOrder.Always.{open-uses}
-use Rattle.crash_safety.proofs.Completion.{shaped-in-use, stored, after-stored, Ended, ends}
+use Rattle.crash_safety.proofs.Completion.{sized-in-use, stored, after-stored, Ended, ends}
 use Rattle.crash_safety.proofs.Recovering.{Settled, stores-settled, open-settles}
 
 -- the stores that an open answers are those that are left then
@@ -57,7 +57,7 @@ module _ (w : World) (i : Invariant w) where
   recovered : Ended n (opening .memory) (opening .disk)
   unfolding step outcome
   recovered =
-      ends n (opening .memory) (opening .disk) (shaped-in-use opening (step-keeps openCall w i) opened) opened (open-left (w .disk) (i .opens))
+      ends n (opening .memory) (opening .disk) (sized-in-use opening (step-keeps openCall w i) opened) opened (open-left (w .disk) (i .opens))
 
   -- the invariant holds, and the world is in use with nothing pending
   kept : Invariant (stored n opening)
