@@ -1,5 +1,5 @@
--- Pending work, kind by kind: how far it has come with one more store, and what its last one makes. What holds of every kind is proved
--- by these laws.
+-- Pending work, kind by kind: how far it has come with one more store, what its last one makes, and how it begins. What holds of every
+-- kind is proved by these laws.
 use Prim.Native.Nat.{ℕ, suc, _+_}
 use native.Mathlib.Omega.{arith}
 use mathlib.Core.Path.{_≡_, refl, sym, ap, _∙_}

@@ -4,9 +4,9 @@ use native.Mathlib.Omega.{arith}
 use mathlib.Core.Path.{_≡_, refl, sym, ap, ap₂, _∙_, subst, subst₂}
 use mathlib.Core.Bool.{Bool, true, false, cond, true≢false}
 use mathlib.Core.Option.{Option, none}
-use mathlib.Core.List.{List, [], _∷_, _++_}
+use mathlib.Core.List.{List, _∷_}
 use lib.ListN.{length, take, drop, replicate}
-use lib.Seq.{drop-drop}
+use lib.Seq.{take-add, drop-drop}
 use lib.Dec.{eqb}
 use borrow.Author.Tests.{eqb-true, eqb-false, eq-eqb, ne-eqb}
 use Rattle.model.specs.Types.{Error, Pending, Nothing, Commit, Recovery, Memory}
@@ -81,11 +81,6 @@ pub record Stored (n : ℕ) (memory : Memory) (disk : List ℕ) (after : State) 
   pub more : n < storesLeft (memory .pending) → after .memory ≡ withPending memory (moreDone n (memory .pending))
   pub last : 1 ≤ n → n ≡ storesLeft (memory .pending) → after .memory ≡ finished memory (memory .pending)
 
-take-one-more : (n : ℕ) (stores : List Store) → take (suc n) stores ≡ take 1 stores ++ take n (drop 1 stores)
-take-one-more zero [] = refl
-take-one-more (suc n) [] = refl
-take-one-more n (store ∷ stores) = refl
-
 module _ (memory : Memory) (disk : List ℕ) (a : StoreAccepted memory disk) where
   abbrev p : Pending
   p = memory .pending
@@ -137,6 +132,7 @@ module _ (memory : Memory) (disk : List ℕ) (a : StoreAccepted memory disk) whe
   one-more h n after rest =
       let done-is = one-done p (a .pending) in
       let due-is = same-due p in
+      let count : 1 + n ≡ suc n = omega arith in
       record {
         within = omega (arith, rest .within, done-is, due-is, h);
         disk-is =
@@ -145,7 +141,8 @@ module _ (memory : Memory) (disk : List ℕ) (a : StoreAccepted memory disk) whe
             (due-stays memory disk (valid-parts memory (a .is-valid)) (a .size) p (a .pending) (a .matches) h)
             ∙ ap (λ (stores : List Store). writes (take n stores) next) (sym (drop-drop 1 (storesDone p) due))
             ∙ sym (writes-append (take 1 (drop (storesDone p) due)) (take n (drop 1 (drop (storesDone p) due))) disk)
-            ∙ ap (λ (stores : List Store). writes stores disk) (sym (take-one-more n (drop (storesDone p) due)));
+            ∙ ap (λ (stores : List Store). writes stores disk) (sym (take-add 1 n (drop (storesDone p) due)))
+            ∙ ap (λ (k : ℕ). writes (take k (drop (storesDone p) due)) disk) count;
         more = λ m. rest .more (omega (arith, m, done-is, due-is));
         last = λ _ e. rest .last (omega (arith, e, h)) (omega (arith, e, done-is, due-is)) ∙ finished-later memory p (a .pending);
       }

@@ -3,7 +3,7 @@
 use Prim.Native.Nat.{ℕ}
 use mathlib.Core.Path.{_≡_, refl, sym, ap, ap₂, _∙_, subst, subst₂}
 use mathlib.Core.Logic.{_⊎_, inl, inr, ⊎-elim}
-use mathlib.Core.Bool.{Bool, true, false, _||_, true≢false}
+use mathlib.Core.Bool.{Bool, false, true≢false}
 use mathlib.Core.Option.{Option, none, some}
 use mathlib.Core.List.{List, [], _∷_, _++_}
 use lib.ListN.{length}
@@ -26,6 +26,7 @@ use Rattle.model.specs.Outcome.{Call, outcome, openCall, startCall, allo
 use Rattle.model.specs.Work.{Change, startChange, precommitChange, dropChange, revokeChange, grantChange, freeChange, reserveChange, Work, openWork, crashWork, storeWork, beginWork, changeWork, changed, worked, workedDisk, workedAll, works, worksIn, someWork}
 use Rattle.model.specs.Completion.{State, afterCalls}
 use Rattle.model.proofs.Laws.Accepted.{Ready, StartAccepted, start-accepted, ReserveAccepted, reserve-accepted, DeallocateAccepted, deallocate-accepted, PrecommitAccepted, precommit-accepted, drop-accepted, CommitAccepted, commit-accepted, revoke-accepted, StoreAccepted, store-accepted}
+use Rattle.model.proofs.Laws.Writes.{or-none}
 use Rattle.model.proofs.Laws.Progress.{committing-begun}
 use Rattle.model.proofs.Laws.Granting.{Grants, allocate-grants, allocate-extent-grants}
 
@@ -51,10 +52,6 @@ walk P Is one (new ∷ rest) memory disk (here, later) p =
 -- where none passes a test, each fails it
 abbrev pub Fails : (Work → Pending → Bool) → Work → Memory → Type 0
 Fails test new memory = test new (memory .pending) ≡ false
-
-or-none : (a b : Bool) → (a || b) ≡ false → (a ≡ false) × (b ≡ false)
-or-none true b e = absurd (true≢false e)
-or-none false b e = (refl, e)
 
 pub each-fails : (Is : Work → Memory → List ℕ → Type 0) (test : Work → Pending → Bool) (all : List Work) (memory : Memory) (disk : List ℕ)
     → EachWork Is all memory disk

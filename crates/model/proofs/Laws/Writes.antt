@@ -1,7 +1,7 @@
 -- Lists of writes: their order, their repetition, and the writes that turn one list of words into another.
 use Prim.Native.Nat.{ℕ, suc, _+_}
 use mathlib.Core.Path.{_≡_, refl, sym, ap, _∙_, subst}
-use mathlib.Core.Bool.{Bool, true, false, cond, _&&_, false≢true}
+use mathlib.Core.Bool.{Bool, true, false, cond, _&&_, _||_, false≢true}
 use mathlib.Core.List.{List, [], _∷_, _++_}
 use native.Mathlib.Nat.{suc-inj, suc-ne-zero}
 use native.Mathlib.Numerals.{add-one}
@@ -24,6 +24,11 @@ and-first false b p = p
 pub and-second : (a b : Bool) → (a && b) ≡ true → b ≡ true
 and-second true b p = p
 and-second false b p = absurd (false≢true p)
+
+-- and by "or", where neither holds
+pub or-none : (a b : Bool) → (a || b) ≡ false → (a ≡ false) × (b ≡ false)
+or-none true b e = absurd (false≢true (sym e))
+or-none false b e = (refl, e)
 
 -- one list of writes after another
 pub writes-append : (s t : List Store) (w : List ℕ) → writes (s ++ t) w ≡ writes t (writes s w)

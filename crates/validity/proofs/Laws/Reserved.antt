@@ -2,7 +2,7 @@
 use Prim.Native.Nat.{ℕ, zero, suc, _≤_}
 use native.Mathlib.Omega.{arith}
 use mathlib.Core.Path.{_≡_, refl, sym, ap, _∙_}
-use mathlib.Core.Bool.{Bool, true, false, not, _&&_, _||_, and-comm, false≢true}
+use mathlib.Core.Bool.{Bool, true, false, not, _&&_, and-comm, false≢true}
 use mathlib.Core.List.{List, [], _∷_}
 use lib.ListN.{length, getD}
 use lib.Dec.{leb, ltb}
@@ -21,6 +21,7 @@ use Rattle.model.specs.Available.{available}
 use Rattle.model.specs.Reserves.{totalReserved}
 use Rattle.model.specs.Touched.{took, takenBlocks}
 use Rattle.model.specs.Valid.{reservationsFit, drawnFit, valid}
+use Rattle.model.proofs.Laws.Writes.{or-none}
 use Rattle.model.proofs.Laws.Valid.{ValidParts, valid-parts, parts-valid, slot-below, fit-parts, parts-fit}
 use Rattle.model.proofs.Laws.Fit.{took-is, none-fits}
 use Rattle.model.proofs.Laws.Touches.{reserves-valid}
@@ -82,19 +83,11 @@ module _ (memory : Memory) (quiet : memory .pending ≡ Pending.Nothing) where
 
 -- ---- nothing drawn
 
-first-false : (a b : Bool) → (a || b) ≡ false → a ≡ false
-first-false true b e = e
-first-false false b e = refl
-
-second-false : (a b : Bool) → (a || b) ≡ false → b ≡ false
-second-false true b e = absurd (false≢true (sym e))
-second-false false b e = e
-
 none-drawn : (reserves : List Reserve) → anyDrawn reserves ≡ false → (s : ℕ) → getD reserves s noReserve .drawn ≤ 0
 unfolding anyDrawn
 none-drawn [] e s = omega arith
-none-drawn (reserve ∷ reserves) e zero = ltb-false 0 (reserve .drawn) (first-false (ltb 0 (reserve .drawn)) (anyDrawn reserves) e)
-none-drawn (reserve ∷ reserves) e (suc s) = none-drawn reserves (second-false (ltb 0 (reserve .drawn)) (anyDrawn reserves) e) s
+none-drawn (reserve ∷ reserves) e zero = ltb-false 0 (reserve .drawn) (or-none (ltb 0 (reserve .drawn)) (anyDrawn reserves) e .0)
+none-drawn (reserve ∷ reserves) e (suc s) = none-drawn reserves (or-none (ltb 0 (reserve .drawn)) (anyDrawn reserves) e .1) s
 
 pub undrawn-fits : (sam : List ℕ) (memory : Memory) → anyDrawn (memory .reserves) ≡ false → drawnFits sam (memory .slots) (memory .reserves) ≡ true
 unfolding drawnFits
