@@ -29,8 +29,10 @@ pub fn take_touched(left: &mut [u32; 128], sam: &[u32; 128], tam: &[u32; 128]) -
     let mut wrong: u32 = 0;
     for k in 0..Bitmap::WORDS {
         let touched = tam[k] ^ sam[k];
-        wrong = wrong | (touched & !left[k]);
-        left[k] = left[k] ^ touched;
+        let rest = left[k] ^ touched;
+        // A block that wasn't left is in the rest now.
+        wrong = wrong | (touched & rest);
+        left[k] = rest;
     }
     wrong == 0
 }

@@ -1,22 +1,26 @@
 // Whether a memory is valid (document 01: fit). Every public call asks this first, so it goes over whole words, and takes
 // the memory by its parts.
 ghost use mathlib.Core.Path.{_≡_};
+ghost use mathlib.Core.Bool.{true, false};
 ghost use lib.ListN.{getD};
 ghost use Rattle.bitmap.specs.Bits.{IsBitmap};
 ghost use Rattle.model_types.specs.Memory.{bitmap, memoryOf, idleSlot, noReserves};
 ghost use Rattle.model_types.specs.Pending.{ownerOf};
+ghost use Rattle.model.specs.Reserves.{totalReserved};
 ghost use Rattle.model.specs.Valid.{valid};
+ghost use Rattle.validity.specs.Fit.{availableFor};
 use bitmap::Bitmap;
 use bitops::compare::is_empty;
 use bits::volume_valid;
+use fit::available_for;
 use fit::drawn_fit;
-use fit::reservations_fit;
 use model_types::memory::Pending;
 use model_types::memory::Reserve;
 use model_types::memory::Slot;
 use pending::commit_valid;
 use pending::recovery_valid;
 use reserves::sums::any_drawn;
+use reserves::sums::total;
 use touches::touch::differences;
 use touches::touch::take_touched;
 
@@ -67,7 +71,26 @@ pub fn maps_valid<'a>(
     is_empty(&left)
 }
 
-// Whether a memory is valid. The owner is the slot that the pending work is to be looked up in.
+// What is known of a memory once it is tested: whether it is valid; if so, its available blocks where something is reserved, which
+// were counted for that, and 0 where nothing is.
+pub struct Checked {
+    pub sound: bool,
+    pub available: u32,
+}
+
+impl Checked {
+    // A memory that isn't valid.
+    fn unsound() -> Checked
+        ensures { λ r. ⌜ r .sound ≡ false ⌝ }
+    {
+        Checked {
+            sound: false,
+            available: 0,
+        }
+    }
+}
+
+// Whether a memory is valid, and what was counted for that. The owner is the slot that the pending work is to be looked up in.
 pub fn valid<'a>(
     numbers: Numbers,
     sam: &'a [u32; 128],
@@ -75,36 +98,37 @@ pub fn valid<'a>(
     slots: [Slot; 8],
     pending: Pending,
     owner: Slot,
-) -> bool
+) -> Checked
     requires { ⌜ IsBitmap (now sam) ⌝ }
     requires { ⌜ IsBitmap (now «com») ⌝ }
     requires { ⌜ owner ≡ getD slots (ownerOf pending) idleSlot ⌝ }
-    ensures { λ r. ⌜ r ≡ valid (memoryOf (numbers .blocks) (numbers .cursor) (bitmap (now (sam .entry))) (bitmap (now («com» .entry))) slots (numbers .reserves) pending) ⌝ }
+    ensures tests { λ r. ⌜ r .sound ≡ valid (memoryOf (numbers .blocks) (numbers .cursor) (bitmap (now (sam .entry))) (bitmap (now («com» .entry))) slots (numbers .reserves) pending) ⌝ }
+    ensures counts { λ r. ⌜ (r .sound ≡ true → r .available ≡ availableFor (totalReserved (numbers .reserves)) (numbers .blocks) (now (sam .entry)) (now («com» .entry))) ⌝ }
 {
     let blocks = numbers.blocks;
     let reserves = numbers.reserves;
     if !maps_valid(blocks, numbers.cursor, sam, com, slots) {
-        return false;
+        return Checked::unsound();
     }
-    if !reservations_fit(blocks, sam, com, reserves) {
-        return false;
+    let reserved = total(reserves);
+    let available = available_for(reserved, blocks, sam, com);
+    if (available as u64) < reserved {
+        return Checked::unsound();
     }
     // Handing the slots on copies them, so it is done only if there is something to test.
     if any_drawn(reserves) {
         if !drawn_fit(sam, slots, reserves) {
-            return false;
+            return Checked::unsound();
         }
     }
-    match pending {
+    let sound = match pending {
         Pending::Nothing => true,
         Pending::Commit { slot, done, due } => {
-            if !Bitmap::slot_in_range(slot) {
-                return false;
-            }
             let state = owner.state;
             let tam = owner.tam;
-            commit_valid(state, sam, &tam.words, done, due)
+            Bitmap::slot_in_range(slot) & commit_valid(state, sam, &tam.words, done, due)
         }
         Pending::Recovery { done, due } => recovery_valid(blocks, sam, com, slots, done, due),
-    }
+    };
+    Checked { sound, available }
 }

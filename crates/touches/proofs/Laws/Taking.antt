@@ -1,18 +1,18 @@
 -- The loop that takes what a slot has touched from what is left, after k words.
-use Prim.Native.Nat.{ℕ, _+_, _-_, _^_, _≤_, _<_}
+use Prim.Native.Nat.{ℕ, _+_, _≤_, _<_}
 use native.Mathlib.Omega.{arith}
-use mathlib.Core.Path.{_≡_, refl, sym, ap₂, _∙_}
+use mathlib.Core.Path.{_≡_, refl, sym, ap, ap₂, _∙_}
 use mathlib.Core.List.{List}
 use lib.ListN.{getD, set}
 use lib.Bits.{bitAnd, bitOr, bitXor}
 use lib.Dec.{eqb}
-use Rattle.bitmap.specs.Sizes.{wordBits, bitmapWords}
+use Rattle.bitmap.specs.Sizes.{bitmapWords}
 use Rattle.bitmap.specs.Bits.{IsBitmap}
 use Rattle.bitmap.specs.Blocks.{allBelow}
 use Rattle.bitops.proofs.Laws.Overwrite.{Overwritten}
 use Rattle.touches.specs.Left.{differ, wordLeft, allLeft, TouchedTaken}
 use Rattle.touches.proofs.Laws.Differ.{differ-is, differ-at}
-use Rattle.touches.proofs.Laws.Words.{differ-next, differ-step, differ-all, wrong-more}
+use Rattle.touches.proofs.Laws.Words.{differ-next, differ-step, differ-all, not-left, wrong-more}
 
 -- the touched blocks of these words are taken, and `wrong` has those that weren't left
 pub record Taking (old touched left : List ℕ) (wrong k : ℕ) : Type 0 where
@@ -31,7 +31,7 @@ module _ (old sam tam left : List ℕ) (wrong k : ℕ) (oldIs : IsBitmap old) (s
 
   pub taking-more : k < bitmapWords
       → Taking old (differ tam sam) (set left k (bitXor (getD left k 0) (bitXor (getD tam k 0) (getD sam k 0))))
-      (bitOr wrong (bitAnd (bitXor (getD tam k 0) (getD sam k 0)) (2 ^ wordBits - 1 - getD left k 0)))
+      (bitOr wrong (bitAnd (bitXor (getD tam k 0) (getD sam k 0)) (bitXor (getD left k 0) (bitXor (getD tam k 0) (getD sam k 0)))))
       (k + 1)
   taking-more h =
       let next : getD left k 0 ≡ getD old k 0 = differ-next old (differ tam sam) old k oldIs touchedIs (oldIs .size) (so .written) h in
@@ -40,7 +40,8 @@ module _ (old sam tam left : List ℕ) (wrong k : ℕ) (oldIs : IsBitmap old) (s
         few = omega arith;
         written = differ-step old (differ tam sam) old k oldIs touchedIs (oldIs .size) (so .written) h (ap₂ bitXor next touches);
         found =
-            ap₂ (λ (x y : ℕ). eqb (bitOr wrong (bitAnd x (2 ^ wordBits - 1 - y))) 0) touches next
+            ap₂ (λ (x y : ℕ). eqb (bitOr wrong (bitAnd x (bitXor y x))) 0) touches next
+            ∙ ap (λ (x : ℕ). eqb (bitOr wrong x) 0) (not-left (getD old k 0) (getD (differ tam sam) k 0) (oldIs .small k) (touchedIs .small k))
             ∙ wrong-more old (differ tam sam) wrong k (so .found);
       }
 

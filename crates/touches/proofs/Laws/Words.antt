@@ -2,15 +2,17 @@
 use Prim.Native.Nat.{ℕ, _+_, _-_, _^_, _≤_, _<_}
 use native.Mathlib.Numerals.{add-one}
 use native.Mathlib.Omega.{arith}
-use mathlib.Core.Path.{_≡_, sym, ap, _∙_}
-use mathlib.Core.Bool.{Bool, _&&_, and-comm}
+use mathlib.Core.Path.{_≡_, refl, sym, ap, _∙_}
+use mathlib.Core.Bool.{Bool, true, false, not, xor, _&&_, and-comm}
 use mathlib.Core.List.{List}
 use lib.ListN.{length, getD, set}
-use lib.Bits.{bitAnd, bitOr, bitXor}
+use lib.Bits.{bitAnd, bitOr, bitXor, and-lt, xor-lt}
+use lib.Pow.{ones-sub-lt}
 use lib.Dec.{eqb}
 use Rattle.bitmap.specs.Sizes.{wordBits, bitmapWords}
-use Rattle.bitmap.specs.Bits.{IsBitmap}
+use Rattle.bitmap.specs.Bits.{isSet, IsBitmap}
 use Rattle.bitmap.specs.Blocks.{allBelow}
+use Rattle.bitmap.proofs.Laws.Word.{isSet-and, isSet-xor, isSet-not, word-ext}
 use Rattle.bitops.proofs.Laws.Overwrite.{Overwritten, overwritten-at, overwritten-step, overwritten-all}
 use Rattle.bitops.proofs.Laws.Compare.{eqb-or}
 use Rattle.touches.specs.Left.{differ, wordLeft}
@@ -33,6 +35,25 @@ module _ (u v old : List ℕ) {words : List ℕ} (k : ℕ) (hu : IsBitmap u) (hv
   differ-all h = overwritten-all k (differ u v) old words (omega (arith, differ-size u v hu hv)) (omega arith) so
 
 -- ---- a loop that gathers what isn't left
+
+-- what is touched and not left is what is touched and in the rest, by a table
+touch-rest : (t l : Bool) → (t && xor l t) ≡ (t && not l)
+unfolding xor
+touch-rest true true = refl
+touch-rest true false = refl
+touch-rest false l = refl
+
+pub not-left : (left touched : ℕ) → left < 2 ^ wordBits → touched < 2 ^ wordBits → bitAnd touched (bitXor left touched) ≡ bitAnd touched (2 ^ wordBits - 1 - left)
+not-left left touched hl ht =
+    word-ext wordBits (bitAnd touched (bitXor left touched)) (bitAnd touched (2 ^ wordBits - 1 - left))
+    (and-lt wordBits touched (bitXor left touched) ht (xor-lt wordBits left touched hl ht))
+    (and-lt wordBits touched (2 ^ wordBits - 1 - left) ht (ones-sub-lt wordBits left))
+    (λ i l.
+    isSet-and touched (bitXor left touched) i
+    ∙ ap (λ (u : Bool). isSet touched i && u) (isSet-xor left touched i)
+    ∙ touch-rest (isSet touched i) (isSet left i)
+    ∙ ap (λ (u : Bool). isSet touched i && u) (sym (isSet-not wordBits left i hl l))
+    ∙ sym (isSet-and touched (2 ^ wordBits - 1 - left) i))
 
 -- one word more
 pub wrong-more : (left touched : List ℕ) (wrong k : ℕ) → eqb wrong 0 ≡ allBelow k (wordLeft left touched)

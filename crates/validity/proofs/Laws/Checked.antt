@@ -48,22 +48,21 @@ module _ (memory : Memory) (maps : valid (withPending memory Pending.Nothing) �
   unfolding pendingValid
   checked-nothing p = checked-rest Pending.Nothing true p refl
 
-  pub checked-past : (s done due : ℕ) → Shaped memory → memory .pending ≡ Pending.Commit s done due → slotInRange s ≡ false → false ≡ valid memory
-  checked-past s done due shape p out = checked-rest (Pending.Commit s done due) false p (commit-past memory s done due (shape .slots) out)
-
-  pub checked-commit : (s done due : ℕ) (owner : Slot) (r : Bool) → Shaped memory → memory .pending ≡ Pending.Commit s done due → slotInRange s ≡ true
+  pub checked-commit : (s done due : ℕ) (owner : Slot) (r : Bool) → Shaped memory → memory .pending ≡ Pending.Commit s done due
       → owner ≡ getD (memory .slots) (ownerOf (memory .pending)) idleSlot
-      → r ≡ commitValid (owner .state) (memory .sam .words) (owner .tam .words) done due
+      → r ≡ (slotInRange s && commitValid (owner .state) (memory .sam .words) (owner .tam .words) done due)
       → r ≡ valid memory
   unfolding ownerOf slotIndex
-  checked-commit s done due owner r shape p inside o e =
-      checked-rest (Pending.Commit s done due) r p
-      (e
-      ∙ ap (λ (slot : Slot). commitValid (slot .state) (memory .sam .words) (slot .tam .words) done due) is
-      ∙ commit-valid memory s done due (valid-parts (withPending memory Pending.Nothing) maps) (shape .tam s))
+  checked-commit s done due owner r shape p o e = checked-rest (Pending.Commit s done due) r p (e ∙ go (slotInRange s) refl)
     where
-      is : owner ≡ slotAt memory s
-      is = o ∙ ap (slotAt memory) (ap ownerOf p ∙ ap (λ (t : Bool). cond t s 0) inside)
+      -- past the last slot no commit fits; else the owner is the slot
+      go : (t : Bool) → slotInRange s ≡ t
+          → (t && commitValid (owner .state) (memory .sam .words) (owner .tam .words) done due) ≡ pendingValid memory (Pending.Commit s done due)
+      go false out = commit-past memory s done due (shape .slots) out
+      go true inside =
+          ap (λ (slot : Slot). commitValid (slot .state) (memory .sam .words) (slot .tam .words) done due)
+          (o ∙ ap (slotAt memory) (ap ownerOf p ∙ ap (λ (t : Bool). cond t s 0) inside))
+          ∙ commit-valid memory s done due (valid-parts (withPending memory Pending.Nothing) maps) (shape .tam s)
 
   pub checked-recovery : (done due : ℕ) (r : Bool) → memory .pending ≡ Pending.Recovery done due
       → r ≡ pendingValid (withPending memory (Pending.Recovery done due)) (Pending.Recovery done due) → r ≡ valid memory

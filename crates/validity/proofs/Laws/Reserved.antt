@@ -1,12 +1,12 @@
 -- What is reserved against `valid`: with nothing reserved the memory is valid but for that, and the two tests decide.
-use Prim.Native.Nat.{ℕ, zero, suc, _≤_}
+use Prim.Native.Nat.{ℕ, zero, suc, _≤_, _<_}
 use native.Mathlib.Omega.{arith}
 use mathlib.Core.Path.{_≡_, refl, sym, ap, _∙_}
-use mathlib.Core.Bool.{Bool, true, false, not, _&&_, and-comm, false≢true}
+use mathlib.Core.Bool.{Bool, true, false, not, cond, _&&_, and-comm, false≢true}
 use mathlib.Core.List.{List, [], _∷_}
 use lib.ListN.{length, getD}
-use lib.Dec.{leb, ltb}
-use borrow.Author.Tests.{le-leb, ltb-false}
+use lib.Dec.{leb, ltb, eqb}
+use borrow.Author.Tests.{le-leb, lt-leb, ltb-false, eqb-true}
 use Rattle.bitmap.specs.Sizes.{maxBlocks, slotCount}
 use Rattle.bitmap.specs.Bits.{bit}
 use Rattle.bitmap.specs.Blocks.{availableBlocks, isAllocating, allocatingBlocks, from}
@@ -26,8 +26,30 @@ use Rattle.model.proofs.Laws.Valid.{ValidParts, valid-parts, parts-valid, slot-
 use Rattle.model.proofs.Laws.Fit.{took-is, none-fits}
 use Rattle.model.proofs.Laws.Touches.{reserves-valid}
 use Rattle.reserves.specs.Sums.{anyDrawn}
-use Rattle.validity.specs.Fit.{drawnFits}
+use Rattle.validity.specs.Fit.{availableFor, drawnFits}
 use Rattle.validity.proofs.Laws.Slots.{bool-ext, not-true-false}
+
+-- ---- what is counted for the reservations
+
+module _ (total blocks : ℕ) (sam «com» : List ℕ) where
+  -- fewer than what is reserved, or enough
+  pub too-few : availableFor total blocks sam «com» < total → leb total (length (availableBlocks blocks sam «com»)) ≡ false
+  too-few h = go (eqb total 0) refl h
+    where
+      go : (t : Bool) → eqb total 0 ≡ t → cond t 0 (length (availableBlocks blocks sam «com»)) < total
+          → leb total (length (availableBlocks blocks sam «com»)) ≡ false
+      go true e h = absurd (omega (arith, eqb-true total 0 e))
+      go false e h = lt-leb total _ h
+
+  pub enough : total ≤ availableFor total blocks sam «com» → leb total (length (availableBlocks blocks sam «com»)) ≡ true
+  enough h = go (eqb total 0) refl h
+    where
+      go : (t : Bool) → eqb total 0 ≡ t → total ≤ cond t 0 (length (availableBlocks blocks sam «com»))
+          → leb total (length (availableBlocks blocks sam «com»)) ≡ true
+      go true e h = le-leb total _ (omega (arith, eqb-true total 0 e))
+      go false e h = le-leb total _ h
+
+-- ---- the two tests
 
 module _ (memory : Memory) (quiet : memory .pending ≡ Pending.Nothing) where
   -- the memory with nothing reserved

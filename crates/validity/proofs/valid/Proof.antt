@@ -1,20 +1,24 @@
 -- Each way out is a law of `valid`.
-use mathlib.Core.Path.{_≡_, refl, sym, _∙_}
+use Prim.Native.Nat.{ℕ}
+use native.Mathlib.Omega.{arith}
+use mathlib.Core.Path.{_≡_, refl, sym, ap, ap₂, _∙_}
 use mathlib.Core.Logic.{⊎-elim}
-use mathlib.Core.Bool.{true}
+use mathlib.Core.Bool.{Bool, true, false, _&&_, false≢true}
 use borrow.Author.Needs.{needs}
 use Rattle.bitmap.specs.Bits.{IsBitmap}
 use Rattle.model_types.specs.declared.memory.Pending.{Pending}
 use Rattle.model_types.specs.declared.memory.Memory.{Memory}
 use Rattle.model_types.specs.Memory.{bitmap, memoryOf, slotAt, withPending}
 use Rattle.model_types.specs.Pending.{ownerOf}
+use Rattle.model.specs.Reserves.{totalReserved}
 use Rattle.model.specs.Valid.{isQuiet, pendingValid, valid}
 use Rattle.model.proofs.Laws.Valid.{ValidParts, valid-parts}
 use Rattle.model_types.proofs.Laws.Shape.{Shaped, slots-shaped, reserves-field-shaped}
+use Rattle.validity.specs.Fit.{availableFor}
 use Rattle.validity.proofs.Laws.Answers.{taken-false, left-true}
 use Rattle.validity.proofs.Laws.Slots.{parts-shaped}
-use Rattle.validity.proofs.Laws.Checked.{maps-wrong, checked-nothing, checked-past, checked-commit, checked-recovery}
-use Rattle.validity.proofs.Laws.Reserved.{bare, bare-wrong, reservations-wrong, drawn-wrong, all-right, undrawn-fits}
+use Rattle.validity.proofs.Laws.Checked.{maps-wrong, checked-nothing, checked-commit, checked-recovery}
+use Rattle.validity.proofs.Laws.Reserved.{too-few, enough, bare, bare-wrong, reservations-wrong, drawn-wrong, all-right, undrawn-fits}
 use Rattle.validity.proofs.valid.Statement.{statement}
 use Rattle.validity.proofs.valid.Tie as tie
 
@@ -41,49 +45,106 @@ owner-at c = c .pre .1 .1
 owner-is : (c : tie.Start) → IsBitmap (c .args .owner .tam .words)
 owner-is c = rw (owner-at c) (shape-at c .tam (ownerOf (c .args .pending)))
 
--- where the bitmaps are known to be valid
-bare-at : (c : tie.Else1) → ValidParts (bare (quiet-at (c .before .before .before)) refl)
+-- ---- the places, each from the next one behind it
+
+abbrev begun : tie.After-maps-valid → tie.Start
+begun c = c .before .before
+
+abbrev mapped : tie.After-available-for → tie.Else1
+mapped c = c .before .before
+
+abbrev fitted : tie.Joined3 → tie.After-available-for
+fitted c = c .before .before .before
+
+abbrev entered : tie.After-available-for → tie.Start
+entered c = begun (mapped c .before)
+
+-- by the pending work
+abbrev at-nothing : tie.After-enum-told → tie.Joined3
+at-nothing c = c .before .before
+
+abbrev at-commit : tie.After-pending → tie.Joined3
+at-commit c = c .before .before
+
+abbrev at-recovery : tie.After-pending2 → tie.Joined3
+at-recovery c = c .before .before
+
+abbrev committing : tie.After-slot-in-range → tie.After-pending
+committing c = c .before .before .before
+
+-- ---- what is known there
+
+-- the bitmaps are those of a valid memory
+bare-at : (c : tie.Else1) → ValidParts (bare (quiet-at (begun (c .before))) refl)
 bare-at c = valid-parts _ (left-true _ _ (c .before .maps-valid .ensures) (c .if1 .left))
 
--- where all but the pending work is
-abbrev mapped : tie.Joined3 → tie.Else1
-mapped c = c .before .before .before .before
+-- what is counted for the reservations
+available-at : (c : tie.After-available-for)
+    → let a = entered c .args in
+    c .available-for .result ≡ availableFor (totalReserved (a .numbers .reserves)) (a .numbers .blocks) (a .sam .now) (a .«com» .now)
+available-at c =
+    let a = entered c .args in
+    c .available-for .ensures ∙ ap (λ (n : ℕ). availableFor n (a .numbers .blocks) (a .sam .now) (a .«com» .now)) (c .before .total .ensures)
 
-abbrev start : tie.Joined3 → tie.Start
-start c = mapped c .before .before .before
-
-maps-at : (c : tie.Joined3) → valid (quiet-at (start c)) ≡ true
+-- all but the pending work is right
+maps-at : (c : tie.Joined3) → valid (quiet-at (entered (fitted c))) ≡ true
 maps-at c =
-    all-right (quiet-at (start c)) refl (bare-at (mapped c))
-    (left-true _ _ (c .before .before .before .reservations-fit .ensures) (c .before .before .if2 .left))
+    let at = fitted c in
+    let a = entered at .args in
+    all-right (quiet-at (entered at)) refl (bare-at (mapped at))
+    (enough (totalReserved (a .numbers .reserves)) (a .numbers .blocks) (a .sam .now) (a .«com» .now)
+    (omega (arith, available-at at, at .before .total .ensures, c .before .before .if2 .left)))
     (⊎-elim
-    (λ w. left-true _ _ (w .1 .ensures) (w .2 .left))
-    (λ w. undrawn-fits _ (quiet-at (start c)) (sym (c .before .any-drawn .ensures) ∙ w .left))
+    (λ (_, fits, passed). left-true _ _ (fits .ensures) (passed .left))
+    (λ undrawn. undrawn-fits _ (quiet-at (entered at)) (sym (c .before .any-drawn .ensures) ∙ undrawn .left))
     (c .if3 .came))
 
--- where a commit is known to be pending
-abbrev checked : tie.After-pending → tie.Joined3
-checked c = c .before .before
+-- what an unsound memory tells of its available blocks
+untold {ℓ} : {A : Type ℓ} {t : Bool} → t ≡ false → t ≡ true → A
+untold e h = absurd (false≢true (sym e ∙ h))
 
 -- ---- the answers
 
 maps-valid-requires : tie.Need-maps-valid-requires
 maps-valid-requires c κs = search needs
 
+unsound-requires : tie.Need-unsound-requires
+unsound-requires c κs = search needs
+
 returns : tie.Need-returns
 returns c =
-    let at = c .before .before .before in
-    maps-wrong (memory-at at) (sym (bare-wrong (quiet-at at) refl (taken-false _ _ (c .before .maps-valid .ensures) (c .if1 .taken))))
+    let then = c .before in
+    let at = begun (then .before) in (
+      c .unsound .ensures ∙ maps-wrong (memory-at at) (sym (bare-wrong (quiet-at at) refl (taken-false _ _ (then .before .maps-valid .ensures) (then .if1 .taken)))),
+      untold (c .unsound .ensures),
+    )
 
-reservations-fit-requires : tie.Need-reservations-fit-requires
-reservations-fit-requires c κs =
-    let at = c .before .before .before in
-    (bare-at c .few-blocks, (at .pre .0, at .pre .1 .0))
+total-requires : tie.Need-total-requires
+total-requires c κs = search needs
+
+available-for-requires : tie.Need-available-for-requires
+available-for-requires c κs =
+    let at = begun (c .before .before) in
+    (bare-at (c .before) .few-blocks, (at .pre .0, at .pre .1 .0))
+
+cast-if2 : tie.Need-cast-if2
+cast-if2 c = search needs
+
+unsound-requires-2 : tie.Need-unsound-requires-2
+unsound-requires-2 c κs = search needs
 
 returns-2 : tie.Need-returns-2
 returns-2 c =
-    let at = c .before .before .before .before .before in
-    maps-wrong (memory-at at) (sym (reservations-wrong (quiet-at at) refl (taken-false _ _ (c .before .reservations-fit .ensures) (c .if2 .taken))))
+    let then = c .before in
+    let at = entered (then .before) in
+    let a = at .args in (
+      c .unsound2 .ensures
+          ∙ maps-wrong (memory-at at)
+          (sym (reservations-wrong (quiet-at at) refl
+          (too-few (totalReserved (a .numbers .reserves)) (a .numbers .blocks) (a .sam .now) (a .«com» .now)
+          (omega (arith, available-at (then .before), then .before .before .total .ensures, then .if2 .taken))))),
+      untold (c .unsound2 .ensures),
+    )
 
 any-drawn-requires : tie.Need-any-drawn-requires
 any-drawn-requires c κs = search needs
@@ -91,12 +152,19 @@ any-drawn-requires c κs = search needs
 drawn-fit-requires : tie.Need-drawn-fit-requires
 drawn-fit-requires c κs = search needs
 
+unsound-requires-3 : tie.Need-unsound-requires-3
+unsound-requires-3 c κs = search needs
+
 returns-3 : tie.Need-returns-3
 returns-3 c =
-    let mapped = c .before .before .before .before .before .before in
-    let at = mapped .before .before .before in
-    maps-wrong (memory-at at)
-    (sym (drawn-wrong (quiet-at at) refl (bare-at mapped) (taken-false _ _ (c .before .drawn-fit .ensures) (c .if4 .taken))))
+    let then = c .before in
+    let counted = then .before .before .before .before .before in
+    let at = entered counted in (
+      c .unsound3 .ensures
+          ∙ maps-wrong (memory-at at)
+          (sym (drawn-wrong (quiet-at at) refl (bare-at (mapped counted)) (taken-false _ _ (then .before .drawn-fit .ensures) (then .if4 .taken)))),
+      untold (c .unsound3 .ensures),
+    )
 
 enum-told : tie.Need-enum-told
 enum-told c = search needs
@@ -107,66 +175,66 @@ enum-known-pending c = search needs
 slot-in-range-requires : tie.Need-slot-in-range-requires
 slot-in-range-requires c κs = search needs
 
-returns-4 : tie.Need-returns-4
-returns-4 c =
-    let at = c .before .before .before in
-    let entry = checked at in
-    checked-past (memory-at (start entry)) (maps-at entry) _ _ _ (shape-at (start entry)) (at .pending .given .1)
-    (taken-false _ _ (c .before .slot-in-range .ensures) (c .if5 .taken))
-
 commit-valid-requires : tie.Need-commit-valid-requires
 commit-valid-requires c κs =
-    let at = start (checked (c .before .before .before .before .before .before)) in (shape-at at .sam, owner-is at)
+    let at = entered (fitted (at-commit (committing (c .before .before)))) in (shape-at at .sam, owner-is at)
 
 enum-known-pending-2 : tie.Need-enum-known-pending-2
 enum-known-pending-2 c = search needs
 
 recovery-valid-requires : tie.Need-recovery-valid-requires
 recovery-valid-requires c κs =
-    let entry = c .before .before .before in
-    let shape = shape-at (start entry) in
+    let entry = at-recovery (c .before) in
+    let shape = shape-at (entered (fitted entry)) in
     (valid-parts _ (maps-at entry) .few-blocks, (shape .sam, shape .com))
+
+returns-4 : tie.Need-returns-4
+returns-4 c =
+    let entry = at-nothing c in
+    (checked-nothing (memory-at (entered (fitted entry))) (maps-at entry) (c .enum-told .given .1), λ _. available-at (fitted entry))
 
 returns-5 : tie.Need-returns-5
 returns-5 c =
-    let entry = c .before .before in
-    checked-nothing (memory-at (start entry)) (maps-at entry) (c .enum-told .given .1)
+    let inside = c .before .before .before in
+    let arm = committing inside in
+    let entry = at-commit arm in
+    let at = entered (fitted entry) in (
+      checked-commit (memory-at at) (maps-at entry) _ _ _ (at .args .owner) _ (shape-at at) (arm .pending .given .1) (owner-at at)
+          (ap₂ _&&_ (inside .slot-in-range .ensures) (c .commit-valid .ensures)),
+      λ _. available-at (fitted entry),
+    )
 
 returns-6 : tie.Need-returns-6
-returns-6 c =
-    let inside = c .before .before .before .before in
-    let at = inside .before .before .before in
-    let entry = checked at in
-    checked-commit (memory-at (start entry)) (maps-at entry) _ _ _ (start entry .args .owner) _ (shape-at (start entry)) (at .pending .given .1)
-    (left-true _ _ (inside .before .slot-in-range .ensures) (inside .if5 .left))
-    (owner-at (start entry))
-    (c .commit-valid .ensures)
-
-returns-7 : tie.Need-returns-7
 unfolding pendingValid isQuiet
-returns-7 c =
-    let at = c .before .before in
-    let entry = at .before .before in
-    checked-recovery (memory-at (start entry)) (maps-at entry) _ _ _ (at .pending2 .given .1) (c .recovery-valid .ensures)
+returns-6 c =
+    let arm = c .before .before in
+    let entry = at-recovery arm in (
+      checked-recovery (memory-at (entered (fitted entry))) (maps-at entry) _ _ _ (arm .pending2 .given .1) (c .recovery-valid .ensures),
+      λ _. available-at (fitted entry),
+    )
 
 pub valid-spec : {M : Type 1} → statement M
 valid-spec =
     tie.close
     (tie.spec
     maps-valid-requires
+    unsound-requires
     returns
-    reservations-fit-requires
+    total-requires
+    available-for-requires
+    cast-if2
+    unsound-requires-2
     returns-2
     any-drawn-requires
     drawn-fit-requires
+    unsound-requires-3
     returns-3
     enum-told
     enum-known-pending
     slot-in-range-requires
-    returns-4
     commit-valid-requires
     enum-known-pending-2
     recovery-valid-requires
+    returns-4
     returns-5
-    returns-6
-    returns-7)
+    returns-6)

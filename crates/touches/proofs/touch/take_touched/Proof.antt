@@ -39,20 +39,14 @@ mul-touched-2 c = search needs
 element-copy-out-touched-2 : tie.Need-element-copy-out-touched-2 Inv-loop μ-loop
 element-copy-out-touched-2 c = search needs
 
-mul-wrong : tie.Need-mul-wrong Inv-loop μ-loop
-mul-wrong c = search needs
+mul-rest : tie.Need-mul-rest Inv-loop μ-loop
+mul-rest c = search needs
 
-element-copy-out-wrong : tie.Need-element-copy-out-wrong Inv-loop μ-loop
-element-copy-out-wrong c = search needs
+element-copy-out-rest : tie.Need-element-copy-out-rest Inv-loop μ-loop
+element-copy-out-rest c = search needs
 
 mul-left : tie.Need-mul-left Inv-loop μ-loop
 mul-left c = search needs
-
-element-copy-out-left : tie.Need-element-copy-out-left Inv-loop μ-loop
-element-copy-out-left c = search needs
-
-mul-left-2 : tie.Need-mul-left-2 Inv-loop μ-loop
-mul-left-2 c = search needs
 
 element-write-left : tie.Need-element-write-left Inv-loop μ-loop
 element-write-left c = search needs
@@ -65,7 +59,7 @@ loop-less c = search needs
 
 loop-again : tie.Need-loop-again Inv-loop μ-loop
 loop-again c =
-    let at-turn = c .before .before .before .before in
+    let at-turn = c .before .before .before in
     let at = at-turn .before .before in
     let a = at .args in
     let now = at-turn .before .loop in
@@ -91,11 +85,9 @@ take-touched-spec =
     element-copy-out-touched
     mul-touched-2
     element-copy-out-touched-2
-    mul-wrong
-    element-copy-out-wrong
+    mul-rest
+    element-copy-out-rest
     mul-left
-    element-copy-out-left
-    mul-left-2
     element-write-left
     add-k
     loop-less
