@@ -69,11 +69,11 @@ pub fn allocate(mut memory: Memory, slot: u32, count: u32, list: &mut [u32]) -> 
     };
     let pending = memory.pending;
     let owner = slots[pending.owner()];
-    let sound = valid(numbers, &sam.words, &com.words, slots, pending, owner);
+    let checked = valid(numbers, &sam.words, &com.words, slots, pending, owner);
     let at = Bitmap::slot_index(slot);
     let mut own = slots[at];
     let state = own.state;
-    let earlier = open(sound, pending, slot, state);
+    let earlier = open(checked.sound, pending, slot, state);
     let kept = others(reserves, at);
     let verdict = enough(earlier, blocks, &sam.words, &com.words, count, list, kept);
     let mut answer = verdict.grant(0);

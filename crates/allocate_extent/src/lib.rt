@@ -109,11 +109,11 @@ pub fn allocate_extent(
     };
     let pending = memory.pending;
     let owner = slots[pending.owner()];
-    let sound = valid(numbers, &sam.words, &com.words, slots, pending, owner);
+    let checked = valid(numbers, &sam.words, &com.words, slots, pending, owner);
     let at = Bitmap::slot_index(slot);
     let mut own = slots[at];
     let state = own.state;
-    let earlier = open(sound, pending, slot, state);
+    let earlier = open(checked.sound, pending, slot, state);
     let request = request(earlier, blocks, count, near, list);
     let start = search(request, &sam.words, &com.words, blocks, count, near);
     let found = request.unless(start == blocks, Error::NoExtent);

@@ -47,11 +47,11 @@ pub fn commit(mut memory: Memory, slot: u32) -> Stored
     };
     let mut pending = memory.pending;
     let owner = slots[pending.owner()];
-    let sound = valid(numbers, &sam.words, &com.words, slots, pending, owner);
+    let checked = valid(numbers, &sam.words, &com.words, slots, pending, owner);
     let at = Bitmap::slot_index(slot);
     let own = slots[at];
     let state = own.state;
-    let verdict = precommitted(sound, pending, slot, state);
+    let verdict = precommitted(checked.sound, pending, slot, state);
     let due = stores_due(&sam.words, &own.tam.words);
     let answer = verdict.stores(due);
     if verdict.is_accepted() {

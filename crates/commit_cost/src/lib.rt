@@ -81,11 +81,11 @@ pub fn commit_cost(memory: Memory, slot: u32, count: u32) -> Stored
     };
     let pending = memory.pending;
     let owner = slots[pending.owner()];
-    let sound = valid(numbers, &sam.words, &com.words, slots, pending, owner);
+    let checked = valid(numbers, &sam.words, &com.words, slots, pending, owner);
     let at = Bitmap::slot_index(slot);
     let own = slots[at];
     let state = own.state;
-    let earlier = open(sound, pending, slot, state);
+    let earlier = open(checked.sound, pending, slot, state);
     let kept = others(reserves, at);
     let verdict = enough(earlier, blocks, &sam.words, &com.words, count, kept);
     let mut answer = verdict.stores(0);

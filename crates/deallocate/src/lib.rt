@@ -61,11 +61,11 @@ pub fn deallocate(mut memory: Memory, slot: u32, block: u32) -> Changed
     };
     let pending = memory.pending;
     let owner = slots[pending.owner()];
-    let sound = valid(numbers, &sam.words, &com.words, slots, pending, owner);
+    let checked = valid(numbers, &sam.words, &com.words, slots, pending, owner);
     let at = Bitmap::slot_index(slot);
     let mut own = slots[at];
     let state = own.state;
-    let earlier = open(sound, pending, slot, state);
+    let earlier = open(checked.sound, pending, slot, state);
     let verdict = held(earlier, blocks, &sam.words, &com.words, block);
     let answer = verdict.answer();
     if verdict.is_accepted() {

@@ -28,11 +28,11 @@ pub fn precommit(mut memory: Memory, slot: u32) -> Stored
     };
     let pending = memory.pending;
     let owner = slots[pending.owner()];
-    let sound = valid(numbers, &sam.words, &com.words, slots, pending, owner);
+    let checked = valid(numbers, &sam.words, &com.words, slots, pending, owner);
     let at = Bitmap::slot_index(slot);
     let own = slots[at];
     let state = own.state;
-    let verdict = open(sound, pending, slot, state);
+    let verdict = open(checked.sound, pending, slot, state);
     let answer = verdict.stores(0);
     if verdict.is_accepted() {
         let tam = own.tam;

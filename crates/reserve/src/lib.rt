@@ -59,11 +59,11 @@ pub fn reserve(mut memory: Memory, slot: u32, reservation: u32) -> Changed
     };
     let pending = memory.pending;
     let owner = slots[pending.owner()];
-    let sound = valid(numbers, &sam.words, &com.words, slots, pending, owner);
+    let checked = valid(numbers, &sam.words, &com.words, slots, pending, owner);
     let at = Bitmap::slot_index(slot);
     let own = slots[at];
     let state = own.state;
-    let earlier = idle(sound, pending, slot, state);
+    let earlier = idle(checked.sound, pending, slot, state);
     let kept = others(reserves, at);
     let verdict = room(earlier, blocks, &sam.words, &com.words, kept, reservation);
     let answer = verdict.answer();

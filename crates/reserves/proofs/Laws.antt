@@ -1,2 +1,3 @@
 -- Laws of reservations added up one after the other.
 pub mod Sums
+pub mod Few

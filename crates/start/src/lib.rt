@@ -28,11 +28,11 @@ pub fn start(mut memory: Memory, slot: u32) -> Changed
     };
     let pending = memory.pending;
     let owner = slots[pending.owner()];
-    let sound = valid(numbers, &sam.words, &com.words, slots, pending, owner);
+    let checked = valid(numbers, &sam.words, &com.words, slots, pending, owner);
     let at = Bitmap::slot_index(slot);
     let own = slots[at];
     let state = own.state;
-    let verdict = idle(sound, pending, slot, state);
+    let verdict = idle(checked.sound, pending, slot, state);
     let answer = verdict.answer();
     if verdict.is_accepted() {
         slots[at] = Slot::new(SlotState::Open, sam);

@@ -71,9 +71,9 @@ pub fn status(memory: Memory) -> Measured
     };
     let pending = memory.pending;
     let owner = slots[pending.owner()];
-    let sound = valid(numbers, &sam.words, &com.words, slots, pending, owner);
+    let checked = valid(numbers, &sam.words, &com.words, slots, pending, owner);
     let tally = count_blocks(&sam.words, &com.words);
     let active = count_active(slots);
-    let answer = counted(sound, blocks, tally, active);
+    let answer = counted(checked.sound, blocks, tally, active);
     Measured { answer, memory }
 }

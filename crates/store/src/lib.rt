@@ -39,8 +39,15 @@ pub fn store(mut memory: Memory, disk: &mut [u32]) -> Stored
     let mut pending = memory.pending;
     let at = pending.owner();
     let owner = slots[at];
-    let sound = valid(numbers, &sam.words, &com.words, slots, pending, owner);
-    let verdict = judge(sound, blocks, &sam.words, &owner.tam.words, pending, disk);
+    let checked = valid(numbers, &sam.words, &com.words, slots, pending, owner);
+    let verdict = judge(
+        checked.sound,
+        blocks,
+        &sam.words,
+        &owner.tam.words,
+        pending,
+        disk,
+    );
     let mut answer = verdict.stores(0);
     if verdict.is_accepted() {
         store_next(&sam.words, &owner.tam.words, pending, disk);

@@ -1,14 +1,13 @@
 // Whether a memory is valid (document 01: fit). Every public call asks this first, so it goes over whole words, and takes
 // the memory by its parts.
 ghost use mathlib.Core.Path.{_≡_};
-ghost use mathlib.Core.Bool.{true, false};
+ghost use mathlib.Core.Bool.{false};
 ghost use lib.ListN.{getD};
 ghost use Rattle.bitmap.specs.Bits.{IsBitmap};
 ghost use Rattle.model_types.specs.Memory.{bitmap, memoryOf, idleSlot, noReserves};
 ghost use Rattle.model_types.specs.Pending.{ownerOf};
-ghost use Rattle.model.specs.Reserves.{totalReserved};
 ghost use Rattle.model.specs.Valid.{valid};
-ghost use Rattle.validity.specs.Fit.{availableFor};
+ghost use Rattle.validity.specs.Checks.{Checks};
 use bitmap::Bitmap;
 use bitops::compare::is_empty;
 use bits::volume_valid;
@@ -102,8 +101,7 @@ pub fn valid<'a>(
     requires { ⌜ IsBitmap (now sam) ⌝ }
     requires { ⌜ IsBitmap (now «com») ⌝ }
     requires { ⌜ owner ≡ getD slots (ownerOf pending) idleSlot ⌝ }
-    ensures tests { λ r. ⌜ r .sound ≡ valid (memoryOf (numbers .blocks) (numbers .cursor) (bitmap (now (sam .entry))) (bitmap (now («com» .entry))) slots (numbers .reserves) pending) ⌝ }
-    ensures counts { λ r. ⌜ (r .sound ≡ true → r .available ≡ availableFor (totalReserved (numbers .reserves)) (numbers .blocks) (now (sam .entry)) (now («com» .entry))) ⌝ }
+    ensures { λ r. ⌜ Checks (memoryOf (numbers .blocks) (numbers .cursor) (bitmap (now (sam .entry))) (bitmap (now («com» .entry))) slots (numbers .reserves) pending) r ⌝ }
 {
     let blocks = numbers.blocks;
     let reserves = numbers.reserves;

@@ -1,3 +1,3 @@
 -- Laws of verdicts.
 pub mod Verdicts
-pub mod Ready
+pub mod Frame

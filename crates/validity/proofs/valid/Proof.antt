@@ -114,10 +114,11 @@ unsound-requires c κs = search needs
 returns : tie.Need-returns
 returns c =
     let then = c .before in
-    let at = begun (then .before) in (
-      c .unsound .ensures ∙ maps-wrong (memory-at at) (sym (bare-wrong (quiet-at at) refl (taken-false _ _ (then .before .maps-valid .ensures) (then .if1 .taken)))),
-      untold (c .unsound .ensures),
-    )
+    let at = begun (then .before) in
+    record {
+      sound = c .unsound .ensures ∙ maps-wrong (memory-at at) (sym (bare-wrong (quiet-at at) refl (taken-false _ _ (then .before .maps-valid .ensures) (then .if1 .taken))));
+      counts = untold (c .unsound .ensures);
+    }
 
 total-requires : tie.Need-total-requires
 total-requires c κs = search needs
@@ -137,14 +138,16 @@ returns-2 : tie.Need-returns-2
 returns-2 c =
     let then = c .before in
     let at = entered (then .before) in
-    let a = at .args in (
-      c .unsound2 .ensures
+    let a = at .args in
+    record {
+      sound =
+          c .unsound2 .ensures
           ∙ maps-wrong (memory-at at)
           (sym (reservations-wrong (quiet-at at) refl
           (too-few (totalReserved (a .numbers .reserves)) (a .numbers .blocks) (a .sam .now) (a .«com» .now)
-          (omega (arith, available-at (then .before), then .before .before .total .ensures, then .if2 .taken))))),
-      untold (c .unsound2 .ensures),
-    )
+          (omega (arith, available-at (then .before), then .before .before .total .ensures, then .if2 .taken)))));
+      counts = untold (c .unsound2 .ensures);
+    }
 
 any-drawn-requires : tie.Need-any-drawn-requires
 any-drawn-requires c κs = search needs
@@ -159,12 +162,14 @@ returns-3 : tie.Need-returns-3
 returns-3 c =
     let then = c .before in
     let counted = then .before .before .before .before .before in
-    let at = entered counted in (
-      c .unsound3 .ensures
+    let at = entered counted in
+    record {
+      sound =
+          c .unsound3 .ensures
           ∙ maps-wrong (memory-at at)
-          (sym (drawn-wrong (quiet-at at) refl (bare-at (mapped counted)) (taken-false _ _ (then .before .drawn-fit .ensures) (then .if4 .taken)))),
-      untold (c .unsound3 .ensures),
-    )
+          (sym (drawn-wrong (quiet-at at) refl (bare-at (mapped counted)) (taken-false _ _ (then .before .drawn-fit .ensures) (then .if4 .taken))));
+      counts = untold (c .unsound3 .ensures);
+    }
 
 enum-told : tie.Need-enum-told
 enum-told c = search needs
@@ -191,27 +196,30 @@ recovery-valid-requires c κs =
 returns-4 : tie.Need-returns-4
 returns-4 c =
     let entry = at-nothing c in
-    (checked-nothing (memory-at (entered (fitted entry))) (maps-at entry) (c .enum-told .given .1), λ _. available-at (fitted entry))
+    record { sound = checked-nothing (memory-at (entered (fitted entry))) (maps-at entry) (c .enum-told .given .1); counts = λ _. available-at (fitted entry) }
 
 returns-5 : tie.Need-returns-5
 returns-5 c =
     let inside = c .before .before .before in
     let arm = committing inside in
     let entry = at-commit arm in
-    let at = entered (fitted entry) in (
-      checked-commit (memory-at at) (maps-at entry) _ _ _ (at .args .owner) _ (shape-at at) (arm .pending .given .1) (owner-at at)
-          (ap₂ _&&_ (inside .slot-in-range .ensures) (c .commit-valid .ensures)),
-      λ _. available-at (fitted entry),
-    )
+    let at = entered (fitted entry) in
+    record {
+      sound =
+          checked-commit (memory-at at) (maps-at entry) _ _ _ (at .args .owner) _ (shape-at at) (arm .pending .given .1) (owner-at at)
+          (ap₂ _&&_ (inside .slot-in-range .ensures) (c .commit-valid .ensures));
+      counts = λ _. available-at (fitted entry);
+    }
 
 returns-6 : tie.Need-returns-6
 unfolding pendingValid isQuiet
 returns-6 c =
     let arm = c .before .before in
-    let entry = at-recovery arm in (
-      checked-recovery (memory-at (entered (fitted entry))) (maps-at entry) _ _ _ (arm .pending2 .given .1) (c .recovery-valid .ensures),
-      λ _. available-at (fitted entry),
-    )
+    let entry = at-recovery arm in
+    record {
+      sound = checked-recovery (memory-at (entered (fitted entry))) (maps-at entry) _ _ _ (arm .pending2 .given .1) (c .recovery-valid .ensures);
+      counts = λ _. available-at (fitted entry);
+    }
 
 pub valid-spec : {M : Type 1} → statement M
 valid-spec =
