@@ -39,7 +39,7 @@ precommittedCauses sound pending s state = activeCauses sound pending s state ++
 abbrev pub ofSlot : (Bool → Pending → ℕ → SlotState → List Cause) → Memory → ℕ → List Cause
 ofSlot causes memory s = causes (valid memory) (memory .pending) s (slotAt memory s .state)
 
--- ---- how they go on, for a count of blocks: allocate, of an extent or not, and commit cost
+-- ---- how they go on, for a count of blocks and so many available: allocate, of an extent or not, and commit cost
 
 -- 15 and 16: allocate, of an extent or not
 abbrev pub countCauses : ℕ → List ℕ → List Cause
@@ -49,26 +49,26 @@ countCauses count list =
     ∷ []
 
 -- 24, "last, for runs and Job 2's foretelling too" (document 02, job 7): all three; so much is reserved for the other slots
-abbrev pub spareCauses : ℕ → List ℕ → List ℕ → ℕ → ℕ → List Cause
-spareCauses blocks sam «com» count reserved = reservedForOthers blocks sam «com» count reserved ⇒ ReservedForOthers ∷ []
+abbrev pub spareCauses : ℕ → ℕ → ℕ → List Cause
+spareCauses available count reserved = reservedForOthers available count reserved ⇒ ReservedForOthers ∷ []
 
 -- 17 and 24: allocate and commit cost
-abbrev pub enoughCauses : ℕ → List ℕ → List ℕ → ℕ → ℕ → List Cause
-enoughCauses blocks sam «com» count reserved =
-    tooFewAvailable blocks sam «com» count ⇒ TooFewAvailable
-    ∷ spareCauses blocks sam «com» count reserved
+abbrev pub enoughCauses : ℕ → ℕ → ℕ → List Cause
+enoughCauses available count reserved =
+    tooFewAvailable available count ⇒ TooFewAvailable
+    ∷ spareCauses available count reserved
 
 -- 15, 16, 17 and 24: allocate
-abbrev pub grantCauses : ℕ → List ℕ → List ℕ → ℕ → List ℕ → ℕ → List Cause
-grantCauses blocks sam «com» count list reserved = countCauses count list ++ enoughCauses blocks sam «com» count reserved
+abbrev pub grantCauses : ℕ → ℕ → List ℕ → ℕ → List Cause
+grantCauses available count list reserved = countCauses count list ++ enoughCauses available count reserved
 
 -- 15, 16 and 18: an extent, "allocate's without 17, then 18 for the named block" (job 4); 22 and 24 come behind
 abbrev pub requestCauses : ℕ → ℕ → ℕ → List ℕ → List Cause
 requestCauses blocks count near list = countCauses count list ++ (blockOutOfRange blocks near ⇒ BlockRange ∷ [])
 
 -- 15, 17 and 24: commit cost, "as for allocate, but a count of 0 passes and no list is lent" (job 2)
-abbrev pub costCauses : ℕ → List ℕ → List ℕ → ℕ → ℕ → List Cause
-costCauses blocks sam «com» count reserved = countTooLarge count ⇒ CountRange ∷ enoughCauses blocks sam «com» count reserved
+abbrev pub costCauses : ℕ → ℕ → ℕ → List Cause
+costCauses available count reserved = countTooLarge count ⇒ CountRange ∷ enoughCauses available count reserved
 
 -- ---- store's
 
@@ -92,5 +92,5 @@ blockCauses blocks sam «com» b =
     ∷ []
 
 -- 23, where all reservations would add up to so much
-abbrev pub roomCauses : ℕ → List ℕ → List ℕ → ℕ → List Cause
-roomCauses blocks sam «com» total = overReserved blocks sam «com» total ⇒ OverReserved ∷ []
+abbrev pub roomCauses : ℕ → ℕ → List Cause
+roomCauses available total = overReserved available total ⇒ OverReserved ∷ []

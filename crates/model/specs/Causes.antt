@@ -7,17 +7,22 @@ use lib.ListN.{length}
 use lib.Dec.{leb, ltb, eqb}
 use Rattle.bitmap.specs.Sizes.{maxCount, blocksInRange, countInRange, slotInRange}
 use Rattle.bitmap.specs.Bits.{bit, noBitsFrom}
-use Rattle.bitmap.specs.Blocks.{isAvailable, availableBlocks}
+use Rattle.bitmap.specs.Blocks.{isAvailable}
 use Rattle.bitmap.specs.Extents.{starts}
 use Rattle.model.specs.Types.{SlotState, Pending, Memory}
 use Rattle.model.specs.Sizes.{diskWords}
 use Rattle.model_types.specs.Memory.{isActive, isPrecommitted}
 use Rattle.model_types.specs.Pending.{isNothing}
+use Rattle.model.specs.Available.{available}
 use Rattle.model.specs.Disk.{diskBlocks, diskBitmap, logValid, partsMatch}
 
 -- of a memory's block count, SAM and COM
 abbrev pub ofVolume : {A : Type 0} → (ℕ → List ℕ → List ℕ → A) → Memory → A
 ofVolume told memory = told (memory .blocks) (memory .sam .words) (memory .com .words)
+
+-- and a cause that is told by the number of available blocks
+abbrev pub ofAvailable : {A : Type 0} → (ℕ → A) → Memory → A
+ofAvailable told memory = told (length (available memory))
 
 -- 1, "memory not fit", by whether it is valid
 unfoldable pub memoryInvalid : Bool → Bool
@@ -89,8 +94,8 @@ unfoldable pub listShort : List ℕ → ℕ → Bool
 listShort list count = ltb (length list) count
 
 -- 17, "fewer grantable blocks than the count"
-unfoldable pub tooFewAvailable : ℕ → List ℕ → List ℕ → ℕ → Bool
-tooFewAvailable blocks sam «com» count = ltb (length (availableBlocks blocks sam «com»)) count
+unfoldable pub tooFewAvailable : ℕ → ℕ → Bool
+tooFewAvailable available count = ltb available count
 
 -- 18, "block m or above"
 unfoldable pub blockOutOfRange : ℕ → ℕ → Bool
@@ -113,9 +118,9 @@ unfoldable pub noExtent : Memory → ℕ → Bool
 noExtent memory count = eqb (length (extentStarts memory count)) 0
 
 -- 23 (document 02, job 7), "if the claims would then exceed the grantable blocks": they would add up to so much
-unfoldable pub overReserved : ℕ → List ℕ → List ℕ → ℕ → Bool
-overReserved blocks sam «com» total = ltb (length (availableBlocks blocks sam «com»)) total
+unfoldable pub overReserved : ℕ → ℕ → Bool
+overReserved available total = ltb available total
 
 -- 24 (job 7), "if a grant would leave fewer grantable blocks than the other seats' claims add up to": so much is reserved for them
-unfoldable pub reservedForOthers : ℕ → List ℕ → List ℕ → ℕ → ℕ → Bool
-reservedForOthers blocks sam «com» count reserved = ltb (length (availableBlocks blocks sam «com») - count) reserved
+unfoldable pub reservedForOthers : ℕ → ℕ → ℕ → Bool
+reservedForOthers available count reserved = ltb (available - count) reserved

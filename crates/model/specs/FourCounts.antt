@@ -11,7 +11,7 @@ use Rattle.model.specs.Types.{Open, Nothing, Memory, GrantAnswer, Status
 use Rattle.model_types.specs.Memory.{slotAt}
 use Rattle.model.specs.Reserves.{othersReserved}
 use Rattle.model.specs.Valid.{valid}
-use Rattle.model.specs.Causes.{ofVolume, tooFewAvailable}
+use Rattle.model.specs.Causes.{ofAvailable, tooFewAvailable}
 use Rattle.model.specs.Calls.Allocate.{firstMet, allocateAnswer}
 use Rattle.model.specs.Calls.Status.{counts, statusAnswer}
 
@@ -34,7 +34,7 @@ AllocatedIsFreeingAndHeld = OfValid (λ memory. counts memory .allocated ≡ cou
 
 -- cause 17 compares the available count with the count that is asked
 abbrev pub AvailableIsCompared : Type 0
-AvailableIsCompared = OfValid (λ memory. (count : ℕ) → ofVolume tooFewAvailable memory count ≡ ltb (counts memory .available) count)
+AvailableIsCompared = OfValid (λ memory. (count : ℕ) → ofAvailable tooFewAvailable memory count ≡ ltb (counts memory .available) count)
 
 -- an allocate that only the want of blocks can refuse: nothing is pending, the slot is open, the count is 1 to 64 and the list
 -- is as long

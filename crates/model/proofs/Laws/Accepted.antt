@@ -17,7 +17,7 @@ use Rattle.model.specs.Valid.{valid}
 use Rattle.model.specs.Disk.{diskMatches}
 use Rattle.model.specs.First.{Cause, first, firstOr, _⇒_}
 use Rattle.model.specs.Available.{available}
-use Rattle.model.specs.Causes.{ofVolume, memoryInvalid, diskLengthWrong, diskMismatched, blocksOutOfRange, nothingPending, workPending, slotOutOfRange, slotActive, slotInactive, slotPrecommitted, slotNotPrecommitted, countOutOfRange, countTooLarge, listShort, tooFewAvailable, blockOutOfRange, blockFree, blockFreeing, extentStarts, noExtent, overReserved, reservedForOthers}
+use Rattle.model.specs.Causes.{ofAvailable, memoryInvalid, diskLengthWrong, diskMismatched, blocksOutOfRange, nothingPending, workPending, slotOutOfRange, slotActive, slotInactive, slotPrecommitted, slotNotPrecommitted, countOutOfRange, countTooLarge, listShort, tooFewAvailable, blockOutOfRange, blockFree, blockFreeing, extentStarts, noExtent, overReserved, reservedForOthers}
 use Rattle.model.specs.CauseLists.{readyCauses, activeCauses, openCauses, ofSlot}
 use Rattle.model_types.specs.Pending.{isNothing}
 use Rattle.model.specs.Calls.Format.{formatError}
@@ -83,7 +83,7 @@ unfolding listShort
 list-as-long list count e = ltb-false (length list) count e
 
 -- 17
-pub enough-available : (memory : Memory) (count : ℕ) → ofVolume tooFewAvailable memory count ≡ false → count ≤ length (available memory)
+pub enough-available : (memory : Memory) (count : ℕ) → ofAvailable tooFewAvailable memory count ≡ false → count ≤ length (available memory)
 unfolding tooFewAvailable available
 enough-available memory count e = ltb-false _ count e
 
@@ -108,18 +108,18 @@ unfolding noExtent
 extent-found memory count e = let some = eqb-false (length (extentStarts memory count)) 0 e in omega (arith, some)
 
 -- 23
-fits-reserved : (memory : Memory) (total : ℕ) → ofVolume overReserved memory total ≡ false → total ≤ length (available memory)
+fits-reserved : (memory : Memory) (total : ℕ) → ofAvailable overReserved memory total ≡ false → total ≤ length (available memory)
 unfolding overReserved available
 fits-reserved memory total e = ltb-false _ total e
 
 -- 24, and the other way round
-others-spared : (memory : Memory) (s count : ℕ) → ofVolume reservedForOthers memory count (othersReserved (memory .reserves) s) ≡ false
+others-spared : (memory : Memory) (s count : ℕ) → ofAvailable reservedForOthers memory count (othersReserved (memory .reserves) s) ≡ false
     → Spares memory s count
 unfolding reservedForOthers available
 others-spared memory s count e = ltb-false _ (othersReserved (memory .reserves) s) e
 
 pub spared-others : (memory : Memory) (s count : ℕ) → Spares memory s count
-    → ofVolume reservedForOthers memory count (othersReserved (memory .reserves) s) ≡ false
+    → ofAvailable reservedForOthers memory count (othersReserved (memory .reserves) s) ≡ false
 unfolding reservedForOthers available
 spared-others memory s count h = le-ltb _ (othersReserved (memory .reserves) s) h
 

@@ -13,7 +13,7 @@ use Rattle.model_types.specs.Memory.{reserveAt, noReserve}
 use Rattle.model.specs.Available.{available}
 use Rattle.model.specs.Reserves.{totalReserved, othersReserved}
 use Rattle.model.specs.Valid.{valid}
-use Rattle.model.specs.Causes.{ofVolume, tooFewAvailable, noExtent, reservedForOthers}
+use Rattle.model.specs.Causes.{ofAvailable, tooFewAvailable, noExtent, reservedForOthers}
 use Rattle.model.specs.CauseLists.{openCauses, ofSlot}
 use Rattle.model.specs.Calls.Allocate.{allocateError, allocateAnswer}
 use Rattle.model.specs.Calls.AllocateExtent.{allocateExtentError, allocateExtentAnswer}
@@ -36,10 +36,10 @@ module _ (memory : Memory) (s count : ℕ) where
   -- what a refusal by 24 tells: the cause before it doesn't hold, and it does
   record ForOthers (earlier : Bool) : Type 0 where
     pub passed : earlier ≡ false
-    pub holds : ofVolume reservedForOthers memory count (othersReserved (memory .reserves) s) ≡ true
+    pub holds : ofAvailable reservedForOthers memory count (othersReserved (memory .reserves) s) ≡ true
 
   -- `cN` is what is left of a list from cause N on
-  allocate-for-others : (list : List ℕ) → allocateError memory s count list ≡ some ReservedForOthers → ForOthers (ofVolume tooFewAvailable memory count)
+  allocate-for-others : (list : List ℕ) → allocateError memory s count list ≡ some ReservedForOthers → ForOthers (ofAvailable tooFewAvailable memory count)
   unfolding allocateError
   allocate-for-others list e =
       let c15 = some-after (ofSlot openCauses memory s) _ ReservedForOthers refl e in
@@ -59,7 +59,7 @@ module _ (memory : Memory) (s count : ℕ) where
       let c24 = c22 .1 in
       record { passed = c22 .0; holds = ⊎-elim (λ h. h) (λ never. absurd never) c24 }
 
-  cost-for-others : commitCostError memory s count ≡ some ReservedForOthers → ForOthers (ofVolume tooFewAvailable memory count)
+  cost-for-others : commitCostError memory s count ≡ some ReservedForOthers → ForOthers (ofAvailable tooFewAvailable memory count)
   unfolding commitCostError
   cost-for-others e =
       let c15 = some-after (ofSlot openCauses memory s) _ ReservedForOthers refl e in
@@ -78,7 +78,7 @@ module _ (memory : Memory) (s count : ℕ) where
         cost = λ refused. never (cost-for-others (due-refused (commitCostError memory s count) _ ReservedForOthers refused) .holds);
       }
     where
-      never : ofVolume reservedForOthers memory count (othersReserved (memory .reserves) s) ≡ true → ⊥
+      never : ofAvailable reservedForOthers memory count (othersReserved (memory .reserves) s) ≡ true → ⊥
       never holds = false≢true (sym (spared-others memory s count spares) ∙ holds)
 
 pub own-not-for-others : OwnNotForOthers

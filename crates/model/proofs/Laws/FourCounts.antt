@@ -16,7 +16,7 @@ use Rattle.model.specs.First.{Cause, first, firstOr, _⇒_}
 use Rattle.model.specs.Valid.{valid}
 use Rattle.model.specs.Available.{available}
 use Rattle.model.specs.Reserves.{othersReserved}
-use Rattle.model.specs.Causes.{ofVolume, memoryInvalid, countOutOfRange, listShort, tooFewAvailable, reservedForOthers}
+use Rattle.model.specs.Causes.{ofAvailable, memoryInvalid, countOutOfRange, listShort, tooFewAvailable, reservedForOthers}
 use Rattle.model.specs.CauseLists.{openCauses, ofSlot, countCauses, enoughCauses}
 use Rattle.model.specs.Calls.Allocate.{allocateError, allocateAnswer}
 use Rattle.model.specs.Calls.Status.{statusError, allocated, counts, statusAnswer}
@@ -47,7 +47,7 @@ available-is-compared memory is-valid count = refl
 
 -- refused by 17, there are too few: `cN` is what is left of the list from cause N on
 too-few : (memory : Memory) (s count : ℕ) (list : List ℕ) → allocateError memory s count list ≡ some TooFewAvailable
-    → ofVolume tooFewAvailable memory count ≡ true
+    → ofAvailable tooFewAvailable memory count ≡ true
 unfolding allocateError
 too-few memory s count list e =
     let c15 = some-after (ofSlot openCauses memory s) _ TooFewAvailable refl e in
@@ -75,7 +75,7 @@ module _ (memory : Memory) (s count : ℕ) (list : List ℕ) (is-valid : valid m
 
   -- so 17 decides, and then 24
   decides : allocateError memory s count list
-      ≡ first (ofVolume enoughCauses memory count (othersReserved (memory .reserves) s))
+      ≡ first (ofAvailable enoughCauses memory count (othersReserved (memory .reserves) s))
   unfolding allocateError precommitError
   decides = none-append _ _ eligible-open ∙ eligible-room _
 

@@ -21,7 +21,7 @@ use Rattle.model.specs.Available.{available}
 use Rattle.model.specs.Reserves.{totalReserved, othersReserved, drawing, putBack, reserving}
 use Rattle.model.specs.Rollback.{rolledBack}
 use Rattle.model.specs.Valid.{valid}
-use Rattle.model.specs.Causes.{ofVolume, memoryInvalid, nothingPending, workPending, slotOutOfRange, slotActive, overReserved}
+use Rattle.model.specs.Causes.{ofAvailable, memoryInvalid, nothingPending, workPending, slotOutOfRange, slotActive, overReserved}
 use Rattle.model.specs.CauseLists.{roomCauses}
 use Rattle.model.specs.Calls.Start.{startError}
 use Rattle.model.specs.Calls.Allocate.{allocateError, firstMet, taking, allocateAnswer, allocateMemory}
@@ -89,7 +89,7 @@ may-always-allocate memory is-valid s count list asks =
 
 -- what 23 compares
 over-reserved : (memory : Memory) (s reservation : ℕ) → s < length (memory .reserves)
-    → ofVolume overReserved memory (totalReserved (reserving memory s reservation .reserves)) ≡ ltb (length (available memory)) (reservation + othersReserved (memory .reserves) s)
+    → ofAvailable overReserved memory (totalReserved (reserving memory s reservation .reserves)) ≡ ltb (length (available memory)) (reservation + othersReserved (memory .reserves) s)
 unfolding overReserved available reserving
 over-reserved memory s reservation there = ap (ltb (length (available memory))) (total-set (memory .reserves) s _ there)
 
@@ -101,7 +101,7 @@ module _ (memory : Memory) (is-valid : valid memory ≡ true) (s reservation : �
   start-by-state Open e = rw (is-valid, nothing, lt-ltb s slotCount below, e)
   start-by-state Precommitted e = rw (is-valid, nothing, lt-ltb s slotCount below, e)
 
-  idle-decides : slotAt memory s .state ≡ Idle → reserveError memory s reservation ≡ first (ofVolume roomCauses memory (totalReserved (reserving memory s reservation .reserves)))
+  idle-decides : slotAt memory s .state ≡ Idle → reserveError memory s reservation ≡ first (ofAvailable roomCauses memory (totalReserved (reserving memory s reservation .reserves)))
   unfolding reserveError startError
   idle-decides idle = none-append _ _ (start-by-state Idle idle)
 

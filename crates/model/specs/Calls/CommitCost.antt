@@ -14,14 +14,14 @@ use Rattle.model_types.specs.Memory.{volumeWords}
 use Rattle.model_types.specs.Pending.{storesFor}
 use Rattle.model.specs.Touched.{touchedBlocks}
 use Rattle.model.specs.Reserves.{othersReserved}
-use Rattle.model.specs.Causes.{ofVolume}
+use Rattle.model.specs.Causes.{ofAvailable}
 use Rattle.model.specs.CauseLists.{openCauses, ofSlot, costCauses}
 
 -- "Causes as for allocate, but a count of 0 passes and no list is lent." Job 7: 24 "last, for runs and Job 2's
 -- foretelling too". So 1, 8, 10, 12, 13; 15, 17, 24
 unfoldable pub commitCostError : Memory → ℕ → ℕ → Option Error
 commitCostError memory s count =
-    first (ofSlot openCauses memory s ++ ofVolume costCauses memory count (othersReserved (memory .reserves) s))
+    first (ofSlot openCauses memory s ++ ofAvailable costCauses memory count (othersReserved (memory .reserves) s))
 
 -- the most stores of a commit, in a volume of so many words, that touched so many blocks
 unfoldable pub costFor : ℕ → ℕ → ℕ
