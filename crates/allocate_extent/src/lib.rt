@@ -2,17 +2,15 @@
 // places of the list.
 ghost use mathlib.Core.Path.{_≡_};
 ghost use mathlib.Core.Bool.{true, cond};
-ghost use Prim.Native.Nat.{_≤_};
-ghost use Rattle.bitmap.specs.Sizes.{maxBlocks};
 ghost use Rattle.bitmap.specs.Bits.{IsBitmap};
 ghost use Rattle.bitmap.specs.Blocks.{isAvailable};
 ghost use Rattle.bitmap.specs.Extents.{nearest, starts};
-ghost use Rattle.model.specs.CauseLists.{requestCauses, spareCauses};
 ghost use Rattle.model.specs.Calls.AllocateExtent.{allocateExtentAnswer, allocateExtentMemory, allocateExtentList};
-ghost use Rattle.verdicts.specs.Verdicts.{isAccepted, thenCauses};
+ghost use Rattle.verdicts.specs.Verdicts.{isAccepted};
 ghost use Rattle.extents.specs.Nearest.{CanSearch};
 use bitmap::Bitmap;
-use counting::count_available;
+use causes::grants::request;
+use causes::grants::spare;
 use extents::nearest::nearest_extent;
 use extents::take::take_extent;
 use model_types::answer::GrantAnswer;
@@ -20,21 +18,11 @@ use model_types::answer::Granted;
 use model_types::error::Error;
 use model_types::memory::Memory;
 use reserves::change::draw;
-use reserves::sums::leaves_fewer;
 use reserves::sums::others;
 use validity::Numbers;
 use validity::valid;
 use verdicts::ready::open;
 use verdicts::verdict::Verdict;
-
-// After the causes of an open slot, 15, 16 and 18.
-fn request(earlier: Verdict, blocks: u32, count: u32, near: u32, list: &[u32]) -> Verdict
-    ensures { λ r. ⌜ r ≡ thenCauses earlier (requestCauses blocks count near (now (list .entry))) ⌝ }
-{
-    let counted = earlier.unless(!Bitmap::count_in_range(count), Error::CountRange);
-    let roomy = counted.unless(list.len() < count as usize, Error::ListShort);
-    roomy.unless(blocks <= near, Error::BlockRange)
-}
 
 // The start of the nearest extent, or the number of blocks where there is none. It isn't looked for if the request is refused.
 fn search<'a>(
@@ -54,34 +42,6 @@ fn search<'a>(
         return nearest_extent(sam, com, blocks, count, near);
     }
     blocks
-}
-
-// After 22, 24. So many blocks are kept for the others; if there are none, no block
-// is counted.
-fn spare<'a>(
-    earlier: Verdict,
-    blocks: u32,
-    sam: &'a [u32; 128],
-    com: &'a [u32; 128],
-    count: u32,
-    kept: u64,
-) -> Verdict
-    requires { ⌜ IsBitmap (now sam) ⌝ }
-    requires { ⌜ IsBitmap (now «com») ⌝ }
-    requires { ⌜ (isAccepted earlier ≡ true → blocks ≤ maxBlocks) ⌝ }
-    ensures { λ r. ⌜ r ≡ thenCauses earlier (spareCauses blocks (now (sam .entry)) (now («com» .entry)) count kept) ⌝ }
-{
-    if !earlier.is_accepted() {
-        return earlier;
-    }
-    if kept == 0 {
-        return Verdict::Accepted;
-    }
-    let available = count_available(sam, com, blocks);
-    Verdict::Accepted.unless(
-        leaves_fewer(available, count, kept),
-        Error::ReservedForOthers,
-    )
 }
 
 // Gives a slot an extent. Refused, the memory and the list stay.
@@ -114,11 +74,12 @@ pub fn allocate_extent(
     let mut own = slots[at];
     let state = own.state;
     let earlier = open(checked.sound, pending, slot, state);
-    let request = request(earlier, blocks, count, near, list);
-    let start = search(request, &sam.words, &com.words, blocks, count, near);
-    let found = request.unless(start == blocks, Error::NoExtent);
+    let asked = request(earlier, blocks, count, near, list);
+    let start = search(asked, &sam.words, &com.words, blocks, count, near);
+    let found = asked.unless(start == blocks, Error::NoExtent);
     let kept = others(reserves, at);
-    let verdict = spare(found, blocks, &sam.words, &com.words, count, kept);
+    // Where anything is kept for the others, the memory's test has counted the available blocks.
+    let verdict = spare(found, checked.available, count, kept);
     let mut answer = verdict.grant(0);
     if verdict.is_accepted() {
         take_extent(&mut com.words, &mut own.tam.words, list, start, count);

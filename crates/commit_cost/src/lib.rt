@@ -1,52 +1,20 @@
 // Commit cost: the most stores that a slot's commit may need once the slot has so many blocks more. The memory stays.
 ghost use mathlib.Core.Path.{_≡_};
-ghost use mathlib.Core.Bool.{true};
 ghost use Prim.Native.Nat.{_≤_};
-ghost use Rattle.bitmap.specs.Sizes.{maxBlocks, bitmapWords};
-ghost use Rattle.bitmap.specs.Bits.{IsBitmap};
-ghost use Rattle.model.specs.CauseLists.{costCauses};
+ghost use Rattle.bitmap.specs.Sizes.{bitmapWords};
 ghost use Rattle.model.specs.Calls.CommitCost.{costFor, commitCostAnswer};
-ghost use Rattle.verdicts.specs.Verdicts.{isAccepted, thenCauses};
 use bitmap::Bitmap;
-use counting::count_available;
+use causes::available::available_now;
+use causes::grants::cost;
 use counting::count_differing;
 use model_types::answer::Stored;
 use model_types::answer::StoresAnswer;
-use model_types::error::Error;
 use model_types::memory::Memory;
 use model_types::memory::Pending;
-use reserves::sums::leaves_fewer;
 use reserves::sums::others;
 use validity::Numbers;
 use validity::valid;
 use verdicts::ready::open;
-use verdicts::verdict::Verdict;
-
-// After the causes of an open slot, 15 for a count above 64, 17 and 24. So many blocks are kept for the others.
-fn enough<'a>(
-    earlier: Verdict,
-    blocks: u32,
-    sam: &'a [u32; 128],
-    com: &'a [u32; 128],
-    count: u32,
-    kept: u64,
-) -> Verdict
-    requires { ⌜ IsBitmap (now sam) ⌝ }
-    requires { ⌜ IsBitmap (now «com») ⌝ }
-    requires { ⌜ (isAccepted earlier ≡ true → blocks ≤ maxBlocks) ⌝ }
-    ensures { λ r. ⌜ r ≡ thenCauses earlier (costCauses blocks (now (sam .entry)) (now («com» .entry)) count kept) ⌝ }
-{
-    if !earlier.is_accepted() {
-        return earlier;
-    }
-    let available = count_available(sam, com, blocks);
-    let counted = Verdict::Accepted.unless(Bitmap::COUNT < count, Error::CountRange);
-    let enough = counted.unless(available < count, Error::TooFewAvailable);
-    enough.unless(
-        leaves_fewer(available, count, kept),
-        Error::ReservedForOthers,
-    )
-}
 
 // The most stores of a commit with so many blocks touched: it changes no more words than blocks, and no more than there are.
 fn stores_at_most(words: u32, touched: u32) -> u32
@@ -87,7 +55,9 @@ pub fn commit_cost(memory: Memory, slot: u32, count: u32) -> Stored
     let state = own.state;
     let earlier = open(checked.sound, pending, slot, state);
     let kept = others(reserves, at);
-    let verdict = enough(earlier, blocks, &sam.words, &com.words, count, kept);
+    let known = checked.available;
+    let available = available_now(earlier, known, blocks, &sam.words, &com.words);
+    let verdict = cost(earlier, available, count, kept);
     let mut answer = verdict.stores(0);
     if verdict.is_accepted() {
         let words = Bitmap::words_for(blocks);

@@ -1,6 +1,6 @@
 -- Verdicts on a list of causes, and what a call answers and leaves by the verdict on its list.
 use Prim.Native.Nat.{ℕ}
-use mathlib.Core.Path.{_≡_, refl, sym, ap, _∙_}
+use mathlib.Core.Path.{_≡_, refl, sym, ap, ap₂, _∙_}
 use mathlib.Core.Bool.{Bool, true, false, false≢true}
 use mathlib.Core.Option.{Option, none, some}
 use mathlib.Core.List.{List, [], _∷_, _++_}
@@ -68,6 +68,15 @@ pub then-read : {v earlier : Verdict} {read right : ℕ} (xs : List Cause) (caus
     → v ≡ thenCauses earlier (causes read) → earlier ≡ verdict (first xs) → (first xs ≡ none → read ≡ right) → v ≡ verdict (first (xs ++ causes right))
 then-read xs causes e f g = e ∙ rw f (then-same (first xs) _ _ (λ passed. ap causes (g passed)) ∙ then-causes xs _)
 
+-- the same of two numbers
+pub both-read : {v earlier : Verdict} {read right read' right' : ℕ} (xs : List Cause) (causes : ℕ → ℕ → List Cause)
+    → v ≡ thenCauses earlier (causes read read')
+    → earlier ≡ verdict (first xs)
+    → (first xs ≡ none → read ≡ right)
+    → (first xs ≡ none → read' ≡ right')
+    → v ≡ verdict (first (xs ++ causes right right'))
+both-read xs causes e f g h = e ∙ rw f (then-same (first xs) _ _ (λ passed. ap₂ causes (g passed) (h passed)) ∙ then-causes xs _)
+
 -- what is refused stays so
 pub then-refused : {t : Bool} (v : Verdict) (causes : List Cause) → t ≡ isAccepted v → t ≡ false → v ≡ thenCauses v causes
 then-refused Verdict.Accepted causes f g = absurd (false≢true (sym g ∙ f))
@@ -83,15 +92,21 @@ pub accepted-none : {v : Verdict} {t : Bool} (found : Option Error) → v ≡ ve
 accepted-none none e f g = refl
 accepted-none (some error) e f g = cc
 
--- three causes more, one after the other
-pub three-tested : (v : Verdict) (a b c : Bool) (x y z : Error)
-    → unlessHolds (unlessHolds (unlessHolds v a x) b y) c z ≡ thenCauses v (a ⇒ x ∷ b ⇒ y ∷ c ⇒ z ∷ [])
-unfolding first firstOr
-three-tested Verdict.Accepted true b c x y z = refl
-three-tested Verdict.Accepted false true c x y z = refl
-three-tested Verdict.Accepted false false true x y z = refl
-three-tested Verdict.Accepted false false false x y z = refl
-three-tested (Verdict.Refused error) a b c x y z = refl
+-- behind a verdict that is known only as that: no cause, and one more
+pub none-behind : (v : Verdict) → v ≡ thenCauses v []
+unfolding first
+none-behind Verdict.Accepted = refl
+none-behind (Verdict.Refused error) = refl
+
+pub one-behind : {r w : Verdict} {t : Bool} (v : Verdict) (causes : List Cause) (holds : Bool) (error : Error)
+    → r ≡ unlessHolds w t error → w ≡ thenCauses v causes → t ≡ holds → r ≡ thenCauses v (causes ++ (holds ⇒ error ∷ []))
+one-behind Verdict.Accepted causes holds error e f g = then-tested causes holds error e f g
+one-behind (Verdict.Refused earlier) causes holds error e f g = rw (e, f)
+
+-- and a list behind a list
+pub list-behind : {r w : Verdict} (v : Verdict) (xs ys : List Cause) → r ≡ thenCauses w ys → w ≡ thenCauses v xs → r ≡ thenCauses v (xs ++ ys)
+list-behind Verdict.Accepted xs ys e f = rw (e, f) (then-causes xs ys)
+list-behind (Verdict.Refused earlier) xs ys e f = rw (e, f)
 
 -- accepted after more causes, it was so before, and none of them holds
 pub then-passed : (v : Verdict) (causes : List Cause) → isAccepted (thenCauses v causes) ≡ true → (isAccepted v ≡ true) × (first causes ≡ none)

@@ -8,10 +8,10 @@ use borrow.Author.Tests.{not-true, not-false}
 use Rattle.bitmap.specs.Sizes.{maxBlocks}
 use Rattle.bitmap.specs.Bits.{bit}
 use Rattle.verdicts.proofs.Laws.Verdicts.{then-refused, then-accepted}
-use Rattle.deallocate.proofs.Laws.Deallocate.{range-refused, free-refused, freeing-refused, block-accepted}
+use Rattle.causes.proofs.Laws.Blocks.{range-refused, free-refused, freeing-refused, block-accepted}
 use borrow.Author.Needs.{needs}
-use Rattle.deallocate.proofs.held.Statement.{statement}
-use Rattle.deallocate.proofs.held.Tie as tie
+use Rattle.causes.proofs.blocks.held.Statement.{statement}
+use Rattle.causes.proofs.blocks.held.Tie as tie
 
 -- ---- what is known on the way
 

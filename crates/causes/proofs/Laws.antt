@@ -1,0 +1,3 @@
+-- Laws of causes.
+pub mod Available
+pub mod Blocks

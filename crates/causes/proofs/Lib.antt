@@ -1,0 +1,2 @@
+-- Lemmas of the call's proof.
+pub mod Laws
