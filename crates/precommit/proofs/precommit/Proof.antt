@@ -1,7 +1,7 @@
 -- The slot's causes decide; accepted, the slot is the definition's.
 use mathlib.Core.List.{List}
 use lib.ListN.{set}
-use mathlib.Core.Path.{_≡_, ap, ap₂, _∙_}
+use mathlib.Core.Path.{ap, ap₂, _∙_}
 use mathlib.Core.Logic.{⊎-elim}
 use mathlib.Core.Option.{Option}
 use Rattle.model_types.specs.declared.error.Error.{Error}
