@@ -1,59 +1,70 @@
 -- The slot's causes decide; accepted, the commit ends or its stores are pending.
-use mathlib.Core.Path.{_≡_, sym, ap, ap₂, _∙_}
+use mathlib.Core.Path.{_≡_, ap, ap₂, _∙_}
+use mathlib.Core.Bool.{true}
 use mathlib.Core.Logic.{⊎-elim}
 use mathlib.Core.Option.{Option}
 use mathlib.Core.List.{List}
-use lib.ListN.{length, set}
 use Rattle.model_types.specs.declared.error.Error.{Error}
 use Rattle.model_types.specs.declared.memory.Slot.{Slot}
 use Rattle.model_types.specs.declared.memory.Pending.{Pending}
-use Rattle.model_types.specs.declared.memory.Pending.the-variants.{Commit}
-use Rattle.model_types.specs.declared.memory.Memory.{Memory}
 use Rattle.model_types.specs.Answers.{due}
 use Rattle.model_types.specs.Memory.{withSlots, withPending}
-use Rattle.model.specs.Stores.{changes}
 use Rattle.model.specs.Commit.{commitDue}
 use Rattle.model.specs.Calls.Committing.{commitError, committing, commitAnswer, commitMemory}
 use Rattle.model_types.proofs.Laws.Shape.{Shaped, shaped}
 use Rattle.model.proofs.Laws.Accepted.{CommitAccepted, commit-accepted}
-use Rattle.verdicts.specs.Verdicts.{verdict}
-use Rattle.verdicts.proofs.Laws.Verdicts.{error-of, accepted-none, accepted-leaves, refused-leaves, refused-stores}
-use Rattle.verdicts.proofs.Laws.Ready.{index-is, own-slot, own-tam, owner-read, precommitted-verdict}
-use Rattle.commit.specs.Due.{dueFor}
-use Rattle.commit.proofs.Laws.Commit.{due-is, none-left, some-left}
+use Rattle.verdicts.proofs.Laws.Verdicts.{refused-stores}
+use Rattle.verdicts.proofs.Laws.Frame.{Frame, Judged, owner-read, own-tam, precommitted-verdict, none-held, error-is, leaves-new, leaves-old}
+use Rattle.commit.proofs.Laws.Commit.{stores-are, none-left, some-left}
 use borrow.Author.Needs.{needs}
 use Rattle.commit.proofs.commit.Statement.{statement}
 use Rattle.commit.proofs.commit.Tie as tie
 
--- ---- what is known on the way
+-- ---- the places, each from the next one behind it
+
+abbrev begun : tie.After-owner → tie.Start
+begun c = c .before .before .before .before .before
+
+abbrev owned : tie.After-valid → tie.After-owner
+owned c = c .before .before .before .before .before .before
+
+abbrev tested : tie.After-slot-index → tie.After-valid
+tested c = c .before
+
+abbrev looked : tie.After-precommitted → tie.After-slot-index
+looked c = c .before .before
+
+abbrev judged : tie.After-stores-due → tie.After-precommitted
+judged c = c .before .before .before .before .before
+
+abbrev counted : tie.After-is-accepted → tie.After-stores-due
+counted c = c .before .before
+
+abbrev entered : tie.After-slot-index → tie.Start
+entered c = begun (owned (tested c))
+
+-- ---- what is known there
 
 shape-at : (c : tie.Start) → Shaped (c .args .memory)
 shape-at c = shaped (c .args .memory) _ (c .good .0)
 
--- where the causes are tested
-abbrev judged : tie.After-is-accepted → tie.After-precommitted
-judged c = c .before .before .before .before .before .before .before
+frame-at : (c : tie.After-slot-index) → Frame (entered c .args .memory) (entered c .args .slot) (c .slot-index .result) (tested c .valid .result .sound)
+frame-at c = record { shape = shape-at (entered c); index = c .slot-index .ensures; tested = tested c .valid .ensures .sound }
 
-abbrev entered : tie.After-is-accepted → tie.Start
-entered c = judged c .before .before .before .before .before .before .before .before .before .before .before .before .before .before
+verdict-at : (c : tie.After-is-accepted)
+    → let a = entered (looked (judged (counted c))) .args in
+    Judged (commitError (a .memory) (a .slot)) (judged (counted c) .precommitted .result) (c .is-accepted .result)
+verdict-at c =
+    let judge = judged (counted c) in
+    record { is = precommitted-verdict (frame-at (looked judge)) _ (judge .precommitted .ensures); test = c .is-accepted .ensures }
 
-verdict-is : (c : tie.After-is-accepted) → judged c .precommitted .result ≡ verdict (commitError (entered c .args .memory) (entered c .args .slot))
-verdict-is c =
-    let b = entered c in
-    precommitted-verdict (b .args .memory) _ (b .args .slot) (shape-at b)
-    (judged c .before .before .slot-index .ensures) (judged c .before .before .before .valid .ensures) (judged c .precommitted .ensures)
+accepted-at : (c : tie.After-is-accepted) → c .is-accepted .result ≡ true
+    → let a = entered (looked (judged (counted c))) .args in CommitAccepted (a .memory) (a .slot)
+accepted-at c taken = commit-accepted _ _ (none-held (verdict-at c) taken)
 
--- where none holds
-told : (c : tie.Then1) → CommitAccepted (entered (c .before) .args .memory) (entered (c .before) .args .slot)
-told c = commit-accepted _ _ (accepted-none _ (verdict-is (c .before)) (c .before .is-accepted .ensures) (c .if1 .taken))
-
-stores-are : (c : tie.Then1) → c .before .before .before .stores-due .result ≡ commitDue (entered (c .before) .args .memory) (entered (c .before) .args .slot)
-stores-are c =
-    let b = entered (c .before) in
-    let read = own-slot (b .args .memory) _ (b .args .slot) (shape-at b) (judged (c .before) .before .before .slot-index .ensures) (told c .ready .below) in
-    c .before .before .before .stores-due .ensures
-    ∙ ap (λ (slot : Slot). dueFor (length (changes (b .args .memory .sam .words) (slot .tam .words)))) read
-    ∙ due-is (b .args .memory) (b .args .slot) (shape-at b) (told c)
+due-at : (c : tie.After-is-accepted) → c .is-accepted .result ≡ true
+    → let a = entered (looked (judged (counted c))) .args in counted c .stores-due .result ≡ commitDue (a .memory) (a .slot)
+due-at c taken = stores-are (frame-at (looked (judged (counted c)))) (accepted-at c taken) _ (counted c .stores-due .ensures)
 
 -- ---- the needs
 
@@ -68,9 +79,9 @@ array-copy-out-owner c = search needs
 
 valid-requires : tie.Need-valid-requires
 valid-requires c κs =
-    let b = c .before .before .before .before .before .before .before .before .before .before in
-    let shape = shape-at b in
-    (shape .sam, (shape .com, owner-read (b .args .memory) _ shape (c .before .before .before .before .before .owner .ensures)))
+    let owner = c .before .before .before .before .before in
+    let shape = shape-at (begun owner) in
+    (shape .sam, (shape .com, owner-read (begun owner .args .memory) _ shape (owner .owner .ensures)))
 
 slot-index-requires : tie.Need-slot-index-requires
 slot-index-requires c κs = search needs
@@ -85,9 +96,7 @@ precommitted-requires : tie.Need-precommitted-requires
 precommitted-requires c κs = search needs
 
 stores-due-requires : tie.Need-stores-due-requires
-stores-due-requires c κs =
-    let b = c .before .before .before .before .before .before .before .before .before .before .before .before .before .before .before .before .before .before in
-    (shape-at b .sam, own-tam (b .args .memory) _ (shape-at b) (c .before .before .before .before .before .before .slot-index .ensures))
+stores-due-requires c κs = let frame = frame-at (looked (c .before .before .before .before)) in (frame .shape .sam, own-tam frame _)
 
 stores-requires : tie.Need-stores-requires
 stores-requires c κs = search needs
@@ -111,37 +120,33 @@ returns : tie.Need-returns
 unfolding commitAnswer commitMemory
 returns c =
     let tested = c .before .before in
-    let a = entered tested .args in
-    let shape = shape-at (entered tested) in
-    let looked = judged tested .before .before .slot-index .ensures in
+    let at = looked (judged (counted tested)) in
+    let a = entered at .args in
+    let verdict = verdict-at tested in
     let error = commitError (a .memory) (a .slot) in
     let new = committing (a .memory) (a .slot) in
-    let is = verdict-is tested in
-    let test = tested .is-accepted .ensures in
-    let answer = tested .before .stores .ensures ∙ ap (λ (e : Option Error). due e (tested .before .before .stores-due .result)) (error-of error is) in
-    let put : (slots : List Slot) (pending : Pending) → Memory = λ slots pending. withPending (withSlots (a .memory) slots) pending in
+    let answer = tested .before .stores .ensures ∙ ap (λ (e : Option Error). due e (counted tested .stores-due .result)) (error-is verdict) in
     ⊎-elim
-    (λ w.
-    let then : tie.Then1 = record { before = tested; if1 = w .0 } in
-    let below = told then .ready .below in (
-      answer ∙ ap (due error) (stores-are then),
+    (λ (accepted, none, idle, slots-are, pending-is).
+    let stores = due-at tested (accepted .taken) in (
+      answer ∙ ap (due error) stores,
       c .with-pending .ensures
-          ∙ ap₂ put (w .3 ∙ ap₂ (set (a .memory .slots)) (index-is (a .slot) looked below) (w .2 .ensures)) (w .4)
-          ∙ none-left (a .memory) (a .slot) shape (told then) (sym (stores-are then) ∙ w .1 .taken)
-          ∙ accepted-leaves error new (a .memory) is test (w .0 .taken),
+          ∙ none-left (frame-at at) (accepted-at tested (accepted .taken)) stores (none .taken) (idle .ensures) slots-are pending-is
+          ∙ leaves-new verdict new (a .memory) (accepted .taken),
     ))
     (⊎-elim
-    (λ w.
-    let then : tie.Then1 = record { before = tested; if1 = w .0 } in (
-      answer ∙ ap (due error) (stores-are then),
+    (λ (accepted, some, slots-are, pending-is).
+    let stores = due-at tested (accepted .taken) in (
+      answer ∙ ap (due error) stores,
       c .with-pending .ensures
-          ∙ ap₂ put (w .2) (w .3 ∙ ap (Commit (a .slot) 0) (stores-are then))
-          ∙ some-left (a .memory) (a .slot) shape (told then) (λ z. w .1 .left (stores-are then ∙ z))
-          ∙ accepted-leaves error new (a .memory) is test (w .0 .taken),
+          ∙ some-left (frame-at at) (accepted-at tested (accepted .taken)) stores (some .left) slots-are pending-is
+          ∙ leaves-new verdict new (a .memory) (accepted .taken),
     ))
-    (λ w. (
-      answer ∙ refused-stores error _ _ is test (w .0 .left),
-      c .with-pending .ensures ∙ ap₂ put (w .1) (w .2) ∙ refused-leaves error new (a .memory) is test (w .0 .left),
+    (λ (refused, slots-are, pending-is). (
+      answer ∙ refused-stores error _ _ (verdict .is) (verdict .test) (refused .left),
+      c .with-pending .ensures
+          ∙ ap₂ (λ (slots : List Slot) (pending : Pending). withPending (withSlots (a .memory) slots) pending) slots-are pending-is
+          ∙ leaves-old verdict new (a .memory) (refused .left),
     )))
     (c .before .if1 .came)
 

@@ -1,43 +1,53 @@
 -- The slot's causes decide; accepted, the memory is the definition's.
-use lib.ListN.{getD}
 use mathlib.Core.Path.{_≡_, ap, _∙_}
+use mathlib.Core.Bool.{true}
 use mathlib.Core.Logic.{⊎-elim}
-use Rattle.bitmap.specs.Bits.{IsBitmap}
-use Rattle.model_types.specs.declared.memory.Slot.{Slot}
 use Rattle.model_types.specs.Answers.{done}
-use Rattle.model.specs.Rollback.{rolledBack}
 use Rattle.model.specs.Calls.Drop.{dropError, dropAnswer, dropMemory}
 use Rattle.model_types.proofs.Laws.Shape.{Shaped, shaped}
 use Rattle.model.proofs.Laws.Accepted.{Ready, drop-accepted}
 use Rattle.model.proofs.Laws.Valid.{valid-parts}
-use Rattle.model.proofs.Laws.Fit.{few-reserved, few-drawn}
-use Rattle.verdicts.specs.Verdicts.{verdict}
-use Rattle.verdicts.proofs.Laws.Verdicts.{error-of, accepted-none, accepted-leaves, refused-leaves}
-use Rattle.verdicts.proofs.Laws.Ready.{own-tam, owner-read, drop-verdict}
-use Rattle.rollback.proofs.Laws.Rollback.{rolled-memory, kept-memory}
+use Rattle.reserves.proofs.Laws.Few.{few-at}
+use Rattle.verdicts.proofs.Laws.Frame.{Frame, Judged, owner-read, own-tam, drop-verdict, none-held, error-is}
+use Rattle.rollback.proofs.Laws.Rollback.{rolled-leaves, kept-leaves}
 use borrow.Author.Needs.{needs}
 use Rattle.drop.proofs.drop.Statement.{statement}
 use Rattle.drop.proofs.drop.Tie as tie
 
--- ---- what is known on the way
+-- ---- the places, each from the next one behind it
+
+abbrev begun : tie.After-owner → tie.Start
+begun c = c .before .before .before .before .before
+
+abbrev owned : tie.After-valid → tie.After-owner
+owned c = c .before .before .before .before .before .before
+
+abbrev tested : tie.After-slot-index → tie.After-valid
+tested c = c .before
+
+abbrev looked : tie.After-open → tie.After-slot-index
+looked c = c .before .before
+
+abbrev judged : tie.After-is-accepted → tie.After-open
+judged c = c .before .before
+
+abbrev entered : tie.After-slot-index → tie.Start
+entered c = begun (owned (tested c))
+
+-- ---- what is known there
 
 shape-at : (c : tie.Start) → Shaped (c .args .memory)
 shape-at c = shaped (c .args .memory) _ (c .good .0)
 
--- where the slot has been tested
-abbrev entered : tie.After-is-accepted → tie.Start
-entered c = c .before .before .before .before .before .before .before .before .before .before .before .before .before .before .before .before
+frame-at : (c : tie.After-slot-index) → Frame (entered c .args .memory) (entered c .args .slot) (c .slot-index .result) (tested c .valid .result .sound)
+frame-at c = record { shape = shape-at (entered c); index = c .slot-index .ensures; tested = tested c .valid .ensures .sound }
 
-verdict-is : (c : tie.After-is-accepted) → c .before .before .open .result ≡ verdict (dropError (entered c .args .memory) (entered c .args .slot))
-verdict-is c =
-    let judged = c .before .before in
-    let looked = judged .before .before .slot-index in
-    let tested = judged .before .before .before .valid in
-    drop-verdict (entered c .args .memory) _ (entered c .args .slot) (shape-at (entered c)) (looked .ensures) (tested .ensures) (judged .open .ensures)
+verdict-at : (c : tie.After-is-accepted)
+    → let a = entered (looked (judged c)) .args in Judged (dropError (a .memory) (a .slot)) (judged c .open .result) (c .is-accepted .result)
+verdict-at c = record { is = drop-verdict (frame-at (looked (judged c))) _ (judged c .open .ensures); test = c .is-accepted .ensures }
 
--- where none holds
-told : (c : tie.Then1) → Ready (entered (c .before) .args .memory) (entered (c .before) .args .slot)
-told c = drop-accepted _ _ (accepted-none _ (verdict-is (c .before)) (c .before .is-accepted .ensures) (c .if1 .taken)) .ready
+ready-at : (c : tie.After-is-accepted) → c .is-accepted .result ≡ true → let a = entered (looked (judged c)) .args in Ready (a .memory) (a .slot)
+ready-at c taken = drop-accepted _ _ (none-held (verdict-at c) taken) .ready
 
 -- ---- the needs
 
@@ -52,9 +62,9 @@ array-copy-out-owner c = search needs
 
 valid-requires : tie.Need-valid-requires
 valid-requires c κs =
-    let b = c .before .before .before .before .before .before .before .before .before .before in
-    let shape = shape-at b in
-    (shape .sam, (shape .com, owner-read (b .args .memory) _ shape (c .before .before .before .before .before .owner .ensures)))
+    let owner = c .before .before .before .before .before in
+    let shape = shape-at (begun owner) in
+    (shape .sam, (shape .com, owner-read (begun owner .args .memory) _ shape (owner .owner .ensures)))
 
 slot-index-requires : tie.Need-slot-index-requires
 slot-index-requires c κs = search needs
@@ -74,14 +84,11 @@ answer-requires c κs = search needs
 is-accepted-requires : tie.Need-is-accepted-requires
 is-accepted-requires c κs = search needs
 
--- in whichever order SAM and TAM are given
 roll-back-requires : tie.Need-roll-back-requires
 roll-back-requires c κs =
-    let tested = c .before .before .before .before .before .before .before .before .before .before in
-    let b = tested .before .before .before .before .before .before .before .before .before .before .before .before in
-    let shape = shape-at b in
-    let is-bitmap : (d : Slot) → IsBitmap (getD (b .args .memory .slots) (tested .slot-index .result) d .tam .words) = λ d. own-tam (b .args .memory) d shape (tested .slot-index .ensures) in
-    (shape .com, (search (shape .sam, is-bitmap), search (shape .sam, is-bitmap)))
+    let then = c .before .before .before .before .before in
+    let frame = frame-at (looked (judged (then .before))) in
+    (frame .shape .com, (frame .shape .sam, own-tam frame _))
 
 mul-slots : tie.Need-mul-slots
 mul-slots c = search needs
@@ -92,28 +99,21 @@ array-set-from-slots c = search needs
 put-back-requires : tie.Need-put-back-requires
 put-back-requires c κs =
     let then = c .before .before .before .before .before .before in
-    let memory = entered (then .before) .args .memory in
-    let parts = valid-parts memory (told then .is-valid) in
-    let at = c .before .before .before .before .before .before .before .before .before .before .before .slot-index in
-    (at .ensures .below, record { reservation = few-reserved memory (at .result) parts; drawn = few-drawn memory (at .result) parts (at .ensures .below) })
+    let at = looked (judged (then .before)) in
+    let below = at .slot-index .ensures .below in
+    (below, few-at (entered at .args .memory) _ (valid-parts _ (ready-at (then .before) (then .if1 .taken) .is-valid)) below)
 
 returns : tie.Need-returns
 unfolding dropAnswer dropMemory
 returns c =
     let tested = c .before in
-    let a = entered tested .args in
-    let error = dropError (a .memory) (a .slot) in
-    let test = tested .is-accepted .ensures in
-    let looked = tested .before .before .before .before .slot-index .ensures in (
-      tested .before .answer .ensures ∙ ap done (error-of error (verdict-is tested)),
+    let verdict = verdict-at tested in (
+      tested .before .answer .ensures ∙ ap done (error-is verdict),
       ⊎-elim
           (λ (accepted, _, _, _, _, _, rolled, drew, com-is, slots-are, reserves-are).
-          rolled-memory (a .memory) _ (a .slot) (shape-at (entered tested)) (told (record { before = tested; if1 = accepted })) looked
-          (rolled .ensures .0) (rolled .ensures .1) com-is slots-are (reserves-are ∙ drew .ensures)
-          ∙ accepted-leaves error (rolledBack (a .memory) (a .slot)) (a .memory) (verdict-is tested) test (accepted .taken))
-          (λ (refused, com-is, slots-are, reserves-are).
-          kept-memory (a .memory) com-is slots-are reserves-are
-          ∙ refused-leaves error (rolledBack (a .memory) (a .slot)) (a .memory) (verdict-is tested) test (refused .left))
+          rolled-leaves (frame-at (looked (judged tested))) _ verdict (ready-at tested (accepted .taken)) (accepted .taken)
+          (rolled .ensures .0) (rolled .ensures .1) (drew .ensures) com-is slots-are reserves-are)
+          (λ (refused, com-is, slots-are, reserves-are). kept-leaves verdict _ (refused .left) com-is slots-are reserves-are)
           (c .if1 .came),
     )
 

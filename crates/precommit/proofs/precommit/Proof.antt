@@ -1,7 +1,7 @@
 -- The slot's causes decide; accepted, the slot is the definition's.
 use mathlib.Core.List.{List}
 use lib.ListN.{set}
-use mathlib.Core.Path.{_≡_, ap, ap₂, _∙_}
+use mathlib.Core.Path.{ap, ap₂, _∙_}
 use mathlib.Core.Logic.{⊎-elim}
 use mathlib.Core.Option.{Option}
 use Rattle.model_types.specs.declared.error.Error.{Error}
@@ -12,28 +12,42 @@ use Rattle.model_types.specs.Memory.{withSlots, withState}
 use Rattle.model.specs.Calls.Precommit.{precommitError, precommitting, precommitAnswer, precommitMemory}
 use Rattle.model_types.proofs.Laws.Shape.{Shaped, shaped}
 use Rattle.model.proofs.Laws.Accepted.{precommit-accepted}
-use Rattle.verdicts.specs.Verdicts.{verdict}
-use Rattle.verdicts.proofs.Laws.Verdicts.{error-of, accepted-none, accepted-leaves, refused-leaves}
-use Rattle.verdicts.proofs.Laws.Ready.{index-is, own-slot, owner-read, open-verdict}
+use Rattle.verdicts.proofs.Laws.Frame.{Frame, Judged, owner-read, at-is, own-slot, open-verdict, none-held, error-is, leaves-new, leaves-old}
 use borrow.Author.Needs.{needs}
 use Rattle.precommit.proofs.precommit.Statement.{statement}
 use Rattle.precommit.proofs.precommit.Tie as tie
 
--- ---- what is known on the way
+-- ---- the places, each from the next one behind it
+
+abbrev begun : tie.After-owner → tie.Start
+begun c = c .before .before .before .before .before
+
+abbrev owned : tie.After-valid → tie.After-owner
+owned c = c .before .before .before .before .before .before
+
+abbrev tested : tie.After-slot-index → tie.After-valid
+tested c = c .before
+
+abbrev looked : tie.After-open → tie.After-slot-index
+looked c = c .before .before
+
+abbrev judged : tie.After-is-accepted → tie.After-open
+judged c = c .before .before
+
+abbrev entered : tie.After-slot-index → tie.Start
+entered c = begun (owned (tested c))
+
+-- ---- what is known there
 
 shape-at : (c : tie.Start) → Shaped (c .args .memory)
 shape-at c = shaped (c .args .memory) _ (c .good .0)
 
--- where the slot has been tested
-abbrev entered : tie.Joined1 → tie.Start
-entered c = c .before .before .before .before .before .before .before .before .before .before .before .before .before .before .before .before .before
+frame-at : (c : tie.After-slot-index) → Frame (entered c .args .memory) (entered c .args .slot) (c .slot-index .result) (tested c .valid .result .sound)
+frame-at c = record { shape = shape-at (entered c); index = c .slot-index .ensures; tested = tested c .valid .ensures .sound }
 
-verdict-is : (c : tie.Joined1) → c .before .before .before .open .result ≡ verdict (precommitError (entered c .args .memory) (entered c .args .slot))
-verdict-is c =
-    let judged = c .before .before .before in
-    let looked = judged .before .before .slot-index in
-    let tested = judged .before .before .before .valid in
-    open-verdict (entered c .args .memory) _ (entered c .args .slot) (shape-at (entered c)) (looked .ensures) (tested .ensures) (judged .open .ensures)
+verdict-at : (c : tie.After-is-accepted)
+    → let a = entered (looked (judged c)) .args in Judged (precommitError (a .memory) (a .slot)) (judged c .open .result) (c .is-accepted .result)
+verdict-at c = record { is = open-verdict (frame-at (looked (judged c))) _ (judged c .open .ensures); test = c .is-accepted .ensures }
 
 -- ---- the needs
 
@@ -48,9 +62,9 @@ array-copy-out-owner c = search needs
 
 valid-requires : tie.Need-valid-requires
 valid-requires c κs =
-    let b = c .before .before .before .before .before .before .before .before .before .before in
-    let shape = shape-at b in
-    (shape .sam, (shape .com, owner-read (b .args .memory) _ shape (c .before .before .before .before .before .owner .ensures)))
+    let owner = c .before .before .before .before .before in
+    let shape = shape-at (begun owner) in
+    (shape .sam, (shape .com, owner-read (begun owner .args .memory) _ shape (owner .owner .ensures)))
 
 slot-index-requires : tie.Need-slot-index-requires
 slot-index-requires c κs = search needs
@@ -82,19 +96,20 @@ array-set-from-slots c = search needs
 returns : tie.Need-returns
 unfolding precommitAnswer precommitMemory precommitting
 returns c =
-    let a = entered c .args in
-    let error = precommitError (a .memory) (a .slot) in
-    let test = c .before .is-accepted .ensures in
-    let looked = c .before .before .before .before .before .slot-index .ensures in (
-      c .before .before .stores .ensures ∙ ap (λ (e : Option Error). due e 0) (error-of error (verdict-is c)),
+    let tested = c .before in
+    let at = looked (judged tested) in
+    let a = entered at .args in
+    let verdict = verdict-at tested in (
+      tested .before .stores .ensures ∙ ap (λ (e : Option Error). due e 0) (error-is verdict),
       ⊎-elim
-          (λ w.
-          let below = precommit-accepted (a .memory) (a .slot) (accepted-none error (verdict-is c) test (w .0 .taken)) .ready .below in
-          ap (λ (slots : List Slot). withSlots (a .memory) slots) (w .3 ∙ ap₂ (set (a .memory .slots)) (index-is (a .slot) looked below) (w .2 .ensures ∙ ap (λ (slot : Slot). withState slot Precommitted) (own-slot (a .memory) _ (a .slot) (shape-at (entered c)) looked below)))
-          ∙ accepted-leaves error (precommitting (a .memory) (a .slot)) (a .memory) (verdict-is c) test (w .0 .taken))
-          (λ w.
-          ap (λ (slots : List Slot). withSlots (a .memory) slots) (w .1)
-          ∙ refused-leaves error (precommitting (a .memory) (a .slot)) (a .memory) (verdict-is c) test (w .0 .left))
+          (λ (accepted, _, new, slots-are).
+          let below = precommit-accepted (a .memory) (a .slot) (none-held verdict (accepted .taken)) .ready .below in
+          let slot-is = new .ensures ∙ ap (λ (slot : Slot). withState slot Precommitted) (own-slot (frame-at at) _ below) in
+          ap (λ (slots : List Slot). withSlots (a .memory) slots) (slots-are ∙ ap₂ (set (a .memory .slots)) (at-is (frame-at at) below) slot-is)
+          ∙ leaves-new verdict (precommitting (a .memory) (a .slot)) (a .memory) (accepted .taken))
+          (λ (refused, slots-are).
+          ap (λ (slots : List Slot). withSlots (a .memory) slots) slots-are
+          ∙ leaves-old verdict (precommitting (a .memory) (a .slot)) (a .memory) (refused .left))
           (c .if1 .came),
     )
 

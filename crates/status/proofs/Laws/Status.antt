@@ -78,8 +78,8 @@ module _ (memory : Memory) (tally : Tally) (is : IsTally (memory .sam .words) (m
 
   module _ (e : valid memory ≡ true) where
     -- so the counts fit the volume
-    pub tally-within : Within (memory .blocks) tally
-    tally-within =
+    counts-within : Within (memory .blocks) tally
+    counts-within =
         let parts = valid-parts memory e in
         let allocated = allocated-is-freeing-and-held memory e in
         record {
@@ -104,6 +104,9 @@ module _ (memory : Memory) (tally : Tally) (is : IsTally (memory .sam .words) (m
     counted-is =
         let parts = valid-parts memory e in
         rw (available-is, held-is, allocated-is parts, allocating-is parts, freeing-is parts) (sym (status-answers-counts memory e))
+
+  pub tally-within : {sound : Bool} → sound ≡ valid memory → sound ≡ true → Within (memory .blocks) tally
+  tally-within v e = counts-within (sym v ∙ e)
 
   pub status-is : {sound : Bool} {active : ℕ} → sound ≡ valid memory → active ≡ activeSlots (memory .slots)
       → statusOf sound (memory .blocks) tally active ≡ statusAnswer memory
