@@ -4,7 +4,7 @@ ghost use Rattle.model.specs.Calls.Allocate.{allocateAnswer, allocateMemory, al
 use available::scan::take_met;
 use bitmap::Bitmap;
 use causes::available::available_now;
-use causes::grants::grant;
+use causes::grants::grant_causes;
 use model_types::answer::GrantAnswer;
 use model_types::answer::Granted;
 use model_types::memory::Memory;
@@ -41,7 +41,7 @@ pub fn allocate(mut memory: Memory, slot: u32, count: u32, list: &mut [u32]) -> 
     let kept = others(reserves, at);
     let known = checked.available;
     let available = available_now(earlier, known, blocks, &sam.words, &com.words);
-    let verdict = grant(earlier, available, count, list, kept);
+    let verdict = grant_causes(earlier, available, count, list, kept);
     let mut answer = verdict.grant(0);
     if verdict.is_accepted() {
         first = take_met(

@@ -9,8 +9,8 @@ ghost use Rattle.model.specs.Calls.AllocateExtent.{allocateExtentAnswer, alloca
 ghost use Rattle.verdicts.specs.Verdicts.{isAccepted};
 ghost use Rattle.extents.specs.Nearest.{CanSearch};
 use bitmap::Bitmap;
-use causes::grants::request;
-use causes::grants::spare;
+use causes::grants::request_causes;
+use causes::grants::spare_causes;
 use extents::nearest::nearest_extent;
 use extents::take::take_extent;
 use model_types::answer::GrantAnswer;
@@ -74,12 +74,12 @@ pub fn allocate_extent(
     let mut own = slots[at];
     let state = own.state;
     let earlier = open(checked.sound, pending, slot, state);
-    let asked = request(earlier, blocks, count, near, list);
+    let asked = request_causes(earlier, blocks, count, near, list);
     let start = search(asked, &sam.words, &com.words, blocks, count, near);
     let found = asked.unless(start == blocks, Error::NoExtent);
     let kept = others(reserves, at);
     // Where anything is kept for the others, the memory's test has counted the available blocks.
-    let verdict = spare(found, checked.available, count, kept);
+    let verdict = spare_causes(found, checked.available, count, kept);
     let mut answer = verdict.grant(0);
     if verdict.is_accepted() {
         take_extent(&mut com.words, &mut own.tam.words, list, start, count);

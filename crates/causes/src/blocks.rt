@@ -10,7 +10,7 @@ use model_types::error::Error;
 use verdicts::verdict::Verdict;
 
 // 18, 19 and 20: deallocate.
-pub fn held<'a>(
+pub fn block_causes<'a>(
     earlier: Verdict,
     blocks: u32,
     sam: &'a [u32; 128],

@@ -5,7 +5,7 @@ ghost use Rattle.bitmap.specs.Sizes.{bitmapWords};
 ghost use Rattle.model.specs.Calls.CommitCost.{costFor, commitCostAnswer};
 use bitmap::Bitmap;
 use causes::available::available_now;
-use causes::grants::cost;
+use causes::grants::cost_causes;
 use counting::count_differing;
 use model_types::answer::Stored;
 use model_types::answer::StoresAnswer;
@@ -57,7 +57,7 @@ pub fn commit_cost(memory: Memory, slot: u32, count: u32) -> Stored
     let kept = others(reserves, at);
     let known = checked.available;
     let available = available_now(earlier, known, blocks, &sam.words, &com.words);
-    let verdict = cost(earlier, available, count, kept);
+    let verdict = cost_causes(earlier, available, count, kept);
     let mut answer = verdict.stores(0);
     if verdict.is_accepted() {
         let words = Bitmap::words_for(blocks);

@@ -3,7 +3,7 @@ ghost use mathlib.Core.Path.{_≡_};
 ghost use Rattle.model.specs.Calls.Deallocate.{deallocateAnswer, deallocateMemory};
 use bitmap::Bitmap;
 use bitops::block::clear;
-use causes::blocks::held;
+use causes::blocks::block_causes;
 use model_types::answer::Changed;
 use model_types::memory::Memory;
 use validity::Numbers;
@@ -33,7 +33,7 @@ pub fn deallocate(mut memory: Memory, slot: u32, block: u32) -> Changed
     let mut own = slots[at];
     let state = own.state;
     let earlier = open(checked.sound, pending, slot, state);
-    let verdict = held(earlier, blocks, &sam.words, &com.words, block);
+    let verdict = block_causes(earlier, blocks, &sam.words, &com.words, block);
     let answer = verdict.answer();
     if verdict.is_accepted() {
         clear(&mut com.words, block);

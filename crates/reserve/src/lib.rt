@@ -3,7 +3,7 @@ ghost use mathlib.Core.Path.{_≡_};
 ghost use Rattle.model.specs.Calls.Reserve.{reserveAnswer, reserveMemory};
 use bitmap::Bitmap;
 use causes::available::available_now;
-use causes::grants::room;
+use causes::grants::room_causes;
 use model_types::answer::Changed;
 use model_types::memory::Memory;
 use model_types::memory::Reserve;
@@ -38,7 +38,7 @@ pub fn reserve(mut memory: Memory, slot: u32, reservation: u32) -> Changed
     let kept = others(reserves, at);
     let known = checked.available;
     let available = available_now(earlier, known, blocks, &sam.words, &com.words);
-    let verdict = room(earlier, available, kept, reservation);
+    let verdict = room_causes(earlier, available, kept, reservation);
     let answer = verdict.answer();
     if verdict.is_accepted() {
         let old = reserves[at];

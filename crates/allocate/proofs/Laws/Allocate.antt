@@ -10,7 +10,6 @@ use Rattle.model_types.specs.declared.memory.Slot.{Slot}
 use Rattle.model_types.specs.declared.memory.Memory.{Memory}
 use Rattle.model_types.specs.Memory.{slotAt}
 use Rattle.model.specs.Available.{available}
-use Rattle.model.specs.Causes.{ofVolume}
 use Rattle.model.specs.CauseLists.{openCauses, ofSlot, grantCauses}
 use Rattle.model.specs.Reserves.{othersReserved}
 use Rattle.model.specs.Calls.Precommit.{precommitError}
@@ -21,17 +20,18 @@ use Rattle.model.proofs.Laws.Taking.{met-length}
 use Rattle.model.proofs.Laws.Accepted.{AllocateAccepted}
 use Rattle.verdicts.specs.declared.verdict.Verdict.{Verdict}
 use Rattle.verdicts.specs.Verdicts.{verdict, thenCauses}
-use Rattle.verdicts.proofs.Laws.Verdicts.{then-read}
+use Rattle.verdicts.proofs.Laws.Verdicts.{both-read}
 
 module _ (memory : Memory) (s count : ℕ) (list : List ℕ) where
   -- its own causes after those of an open slot
-  pub allocate-verdict : {v earlier : Verdict} (reserved : ℕ)
-      → v ≡ thenCauses earlier (ofVolume grantCauses memory count list reserved)
+  pub allocate-verdict : {v earlier : Verdict} (counted reserved : ℕ)
+      → v ≡ thenCauses earlier (grantCauses counted count list reserved)
       → earlier ≡ verdict (precommitError memory s)
+      → (precommitError memory s ≡ none → counted ≡ length (available memory))
       → (precommitError memory s ≡ none → reserved ≡ othersReserved (memory .reserves) s)
       → v ≡ verdict (allocateError memory s count list)
   unfolding precommitError allocateError
-  allocate-verdict reserved e f g = then-read (ofSlot openCauses memory s) (ofVolume grantCauses memory count list) e f g
+  allocate-verdict counted reserved e f g h = both-read (ofSlot openCauses memory s) (λ (n m : ℕ). grantCauses n count list m) e f g h
 
   -- its blocks are as many as counted, so at least one
   pub some-met : AllocateAccepted memory s count list → 1 ≤ length (firstMet memory count)

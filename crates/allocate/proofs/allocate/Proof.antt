@@ -3,69 +3,97 @@ use Prim.Native.Nat.{ℕ}
 use native.Mathlib.Omega.{arith}
 use mathlib.Core.Path.{_≡_, refl, ap, ap₂, _∙_}
 use mathlib.Core.Logic.{⊎-elim}
-use mathlib.Core.Option.{Option, none}
+use mathlib.Core.Bool.{true}
+use mathlib.Core.Option.{Option}
 use mathlib.Core.List.{_++_}
 use lib.ListN.{length, getD, set, drop}
 use Rattle.model_types.specs.declared.error.Error.{Error}
 use Rattle.model_types.specs.declared.answer.GrantAnswer.{GrantAnswer}
 use Rattle.model_types.specs.Answers.{granted}
 use Rattle.model_types.specs.Memory.{noReserve}
-use Rattle.model.specs.Reserves.{othersReserved, drawing}
+use Rattle.model.specs.Reserves.{drawing}
 use Rattle.model.specs.Calls.Precommit.{precommitError}
 use Rattle.model.specs.Calls.Allocate.{allocateError, firstMet, taking, allocateAnswer, allocateMemory, allocateList}
 use Rattle.model_types.proofs.Laws.Shape.{Shaped, shaped}
 use Rattle.model.proofs.Laws.Valid.{valid-parts}
 use Rattle.model.proofs.Laws.Taking.{met-length}
-use Rattle.model.proofs.Laws.Fit.{few-reserved, few-drawn}
 use Rattle.model.proofs.Laws.Accepted.{AllocateAccepted, precommit-accepted, allocate-accepted}
 use Rattle.verdicts.specs.Verdicts.{verdict}
-use Rattle.verdicts.proofs.Laws.Verdicts.{error-of, accepted-none, accepted-leaves, refused-leaves, first-answered, none-answered}
-use Rattle.verdicts.proofs.Laws.Ready.{index-is, own-slot, owner-read, open-verdict}
+use Rattle.verdicts.proofs.Laws.Verdicts.{first-answered, none-answered}
+use Rattle.verdicts.proofs.Laws.Frame.{Frame, Judged, owner-read, at-is, own-slot, open-verdict, open-passed, others-read, none-held, error-is, leaves-new, leaves-old}
+use Rattle.reserves.proofs.Laws.Few.{few-at}
+use Rattle.causes.proofs.Laws.Available.{counted-is, can-count}
 use Rattle.available.proofs.Laws.Took.{took, same-parts, first-listed}
 use Rattle.allocate.proofs.Laws.Allocate.{allocate-verdict, some-met, can-take, first-blocks}
 use borrow.Author.Needs.{needs}
 use Rattle.allocate.proofs.allocate.Statement.{statement}
 use Rattle.allocate.proofs.allocate.Tie as tie
 
--- ---- what is known on the way
+-- ---- the places, each from the next one behind it
+
+abbrev begun : tie.After-owner → tie.Start
+begun c = c .before .before .before .before .before .before
+
+abbrev owned : tie.After-valid → tie.After-owner
+owned c = c .before .before .before .before .before .before
+
+abbrev tested : tie.After-slot-index → tie.After-valid
+tested c = c .before
+
+abbrev looked : tie.After-open → tie.After-slot-index
+looked c = c .before .before
+
+abbrev opened : tie.After-others → tie.After-open
+opened c = c .before
+
+abbrev counted : tie.After-available-now → tie.After-others
+counted c = c .before .before .before .before .before
+
+abbrev judged : tie.After-is-accepted → tie.After-grant-causes
+judged c = c .before .before
+
+abbrev available : tie.After-is-accepted → tie.After-available-now
+available c = judged c .before .before
+
+abbrev found : tie.After-is-accepted → tie.After-slot-index
+found c = looked (opened (counted (available c)))
+
+-- the blocks are taken
+abbrev accepted : tie.After-take-met → tie.Then1
+accepted c = c .before .before .before .before .before .before
+
+abbrev entered : tie.After-slot-index → tie.Start
+entered c = begun (owned (tested c))
+
+-- ---- what is known there
 
 shape-at : (c : tie.Start) → Shaped (c .args .memory)
 shape-at c = shaped (c .args .memory) _ (c .good .0)
 
--- where the causes of an open slot are tested
-abbrev entered : tie.After-open → tie.Start
-entered c = c .before .before .before .before .before .before .before .before .before .before .before .before .before .before .before
+frame-at : (c : tie.After-slot-index) → Frame (entered c .args .memory) (entered c .args .slot) (c .slot-index .result) (tested c .valid .result .sound)
+frame-at c = record { shape = shape-at (entered c); index = c .slot-index .ensures; tested = tested c .valid .ensures .sound }
 
-open-is : (c : tie.After-open) → c .open .result ≡ verdict (precommitError (entered c .args .memory) (entered c .args .slot))
-open-is c =
-    open-verdict (entered c .args .memory) _ (entered c .args .slot) (shape-at (entered c))
-    (c .before .before .slot-index .ensures) (c .before .before .before .valid .ensures) (c .open .ensures)
+open-at : (c : tie.After-open) → let a = entered (looked c) .args in c .open .result ≡ verdict (precommitError (a .memory) (a .slot))
+open-at c = open-verdict (frame-at (looked c)) _ (c .open .ensures)
 
--- where all are
-abbrev opened : tie.After-is-accepted → tie.After-open
-opened c = c .before .before .before .before .before .before .before .before .before
-
--- what the others have reserved, where there is such a slot
-others-are : (c : tie.After-is-accepted)
-    → precommitError (entered (opened c) .args .memory) (entered (opened c) .args .slot) ≡ none
-    → c .before .before .before .before .before .before .before .before .others .result ≡ othersReserved (entered (opened c) .args .memory .reserves) (entered (opened c) .args .slot)
-others-are c passed =
-    let a = entered (opened c) .args in
-    c .before .before .before .before .before .before .before .before .others .ensures
-    ∙ ap (othersReserved (a .memory .reserves)) (index-is (a .slot) (opened c .before .before .slot-index .ensures) (precommit-accepted _ _ passed .ready .below))
-
-verdict-is : (c : tie.After-is-accepted)
-    → c .before .before .enough .result
-    ≡ verdict (allocateError (entered (opened c) .args .memory) (entered (opened c) .args .slot) (entered (opened c) .args .count) (entered (opened c) .args .list .now))
-verdict-is c =
-    let a = entered (opened c) .args in
-    allocate-verdict (a .memory) (a .slot) (a .count) (a .list .now) _ (c .before .before .enough .ensures) (open-is (opened c)) (others-are c)
+verdict-at : (c : tie.After-is-accepted)
+    → let a = entered (found c) .args in
+    Judged (allocateError (a .memory) (a .slot) (a .count) (a .list .now)) (judged c .grant-causes .result) (c .is-accepted .result)
+verdict-at c =
+    let others = counted (available c) in
+    let a = entered (found c) .args in
+    record {
+      is =
+          allocate-verdict (a .memory) (a .slot) (a .count) (a .list .now) _ _ (judged c .grant-causes .ensures) (open-at (opened others))
+          (counted-is (a .memory) _ (available c .available-now .ensures) (open-at (opened others)))
+          (λ passed. others-read (frame-at (found c)) (others .others .ensures) (precommit-accepted _ _ passed .ready .below));
+      test = c .is-accepted .ensures;
+    }
 
 -- where none holds
-told : (c : tie.Then1)
-    → AllocateAccepted (entered (opened (c .before)) .args .memory) (entered (opened (c .before)) .args .slot) (entered (opened (c .before)) .args .count)
-    (entered (opened (c .before)) .args .list .now)
-told c = allocate-accepted _ _ _ _ (accepted-none _ (verdict-is (c .before)) (c .before .is-accepted .ensures) (c .if1 .taken))
+told : (c : tie.After-is-accepted) → c .is-accepted .result ≡ true
+    → let a = entered (found c) .args in AllocateAccepted (a .memory) (a .slot) (a .count) (a .list .now)
+told c taken = allocate-accepted _ _ _ _ (none-held (verdict-at c) taken)
 
 -- ---- the needs
 
@@ -80,9 +108,9 @@ array-copy-out-owner c = search needs
 
 valid-requires : tie.Need-valid-requires
 valid-requires c κs =
-    let b = c .before .before .before .before .before .before .before .before .before .before .before in
-    let shape = shape-at b in
-    (shape .sam, (shape .com, owner-read (b .args .memory) _ shape (c .before .before .before .before .before .owner .ensures)))
+    let owner = c .before .before .before .before .before in
+    let shape = shape-at (begun owner) in
+    (shape .sam, (shape .com, owner-read (begun owner .args .memory) _ shape (owner .owner .ensures)))
 
 slot-index-requires : tie.Need-slot-index-requires
 slot-index-requires c κs = search needs
@@ -96,13 +124,15 @@ array-copy-out-own c = search needs
 open-requires : tie.Need-open-requires
 open-requires c κs = search needs
 
-enough-requires : tie.Need-enough-requires
-enough-requires c κs =
-    let opened = c .before .before .before .before .before .before in
-    let shape = shape-at (entered opened) in (
-      shape .sam,
-      (shape .com, λ e. valid-parts _ (precommit-accepted _ _ (accepted-none _ (open-is opened) refl e) .ready .is-valid) .few-blocks),
-    )
+available-now-requires : tie.Need-available-now-requires
+available-now-requires c κs =
+    let open-slot = opened (c .before .before .before .before) in
+    let at = looked open-slot in
+    let shape = shape-at (entered at) in
+    (shape .sam, (shape .com, λ e. can-count _ _ (tested at .valid .ensures) (open-passed _ _ (open-at open-slot) e .is-valid)))
+
+grant-causes-requires : tie.Need-grant-causes-requires
+grant-causes-requires c κs = search needs
 
 grant-requires : tie.Need-grant-requires
 grant-requires c κs = search needs
@@ -112,26 +142,23 @@ is-accepted-requires c κs = search needs
 
 take-met-requires : tie.Need-take-met-requires
 take-met-requires c κs =
-    let accepted = c .before .before .before .before .before in
-    let t = told accepted in
-    let after-open = opened (accepted .before) in
-    let b = entered after-open in
-    can-take (b .args .memory) (b .args .slot) (b .args .count) (b .args .list .now) _
-    (own-slot (b .args .memory) _ (b .args .slot) (shape-at b) (after-open .before .before .slot-index .ensures) (t .ready .below))
-    (shape-at b) (valid-parts _ (t .ready .is-valid)) (t .enough) (t .room)
+    let then = c .before .before .before .before .before in
+    let t = told (then .before) (then .if1 .taken) in
+    let at = found (then .before) in
+    let a = entered at .args in
+    can-take (a .memory) (a .slot) (a .count) (a .list .now) _ (own-slot (frame-at at) _ (t .ready .below))
+    (shape-at (entered at)) (valid-parts _ (t .ready .is-valid)) (t .enough) (t .room)
 
 others-requires : tie.Need-others-requires
 others-requires c κs = c .before .before .slot-index .ensures .below
 
 draw-requires : tie.Need-draw-requires
 draw-requires c κs =
-    let then = c .before .before .before .before .before .before .before .before in
-    let memory = entered (opened (then .before)) .args .memory in
-    let parts = valid-parts memory (told then .ready .is-valid) in
-    let at = c .before .before .before .before .before .before .before .before .before .before .before .before .before .before .before .before .before .before .before .before .slot-index in (
-      at .ensures .below,
-      (record { reservation = few-reserved memory (at .result) parts; drawn = few-drawn memory (at .result) parts (at .ensures .below) }, told then .few),
-    )
+    let then = accepted (c .before .before) in
+    let t = told (then .before) (then .if1 .taken) in
+    let at = found (then .before) in
+    let below = at .slot-index .ensures .below in
+    (below, (few-at (entered at .args .memory) _ (valid-parts _ (t .ready .is-valid)) below, t .few))
 
 mul-slots : tie.Need-mul-slots
 mul-slots c = search needs
@@ -139,52 +166,56 @@ mul-slots c = search needs
 array-set-from-slots : tie.Need-array-set-from-slots
 array-set-from-slots c = search needs
 
-slice-read-t48 : tie.Need-slice-read-t48
-slice-read-t48 c =
-    let t = told (c .before .before .before .before .before .before .before .before .before .before) in
-    omega (arith, t .some, t .room, c .before .before .before .before .take-met .kept .1 .1 .1 .0)
+slice-read-t50 : tie.Need-slice-read-t50
+slice-read-t50 c =
+    let took = c .before .before .before .before in
+    let then = accepted took in
+    let t = told (then .before) (then .if1 .taken) in
+    let (_, (_, (_, (same-list, _)))) = took .take-met .kept in
+    omega (arith, t .some, t .room, same-list)
 
 same-length : tie.Need-same-length
 same-length c =
-    ⊎-elim (λ w. ap length (w .11) ∙ w .6 .kept .1 .1 .1 .0) (λ w. ap length (w .1)) (c .if1 .came)
+    ⊎-elim
+    (λ (_, _, _, _, _, _, took, _, _, _, _, list-is, _, _, _, _, _). let (_, (_, (_, (same-list, _)))) = took .kept in ap length list-is ∙ same-list)
+    (λ (_, list-is, _, _, _, _, _). ap length list-is)
+    (c .if1 .came)
 
 returns : tie.Need-returns
 unfolding allocateAnswer allocateMemory allocateList
 returns c =
-    let tested = c .before in
-    let a = entered (opened tested) .args in
-    let shape = shape-at (entered (opened tested)) in
-    let looked = opened tested .before .before .slot-index .ensures in
+    let end = c .before in
+    let at = found end in
+    let a = entered at .args in
     let error = allocateError (a .memory) (a .slot) (a .count) (a .list .now) in
-    let new = taking (a .memory) (a .slot) (firstMet (a .memory) (a .count)) in
-    let list = firstMet (a .memory) (a .count) ++ drop (a .count) (a .list .now) in
-    let is = verdict-is tested in
-    let test = tested .is-accepted .ensures in
+    let blocks = firstMet (a .memory) (a .count) in
+    let new = taking (a .memory) (a .slot) blocks in
+    let list = blocks ++ drop (a .count) (a .list .now) in
+    let verdict = verdict-at end in
     ⊎-elim
-    (λ w.
-    let t = told (record { before = tested; if1 = w .0 }) in
-    let read = own-slot (a .memory) _ (a .slot) shape looked (t .ready .below) in
-    let at = index-is (a .slot) looked (t .ready .below) in
-    let taken = rw first-blocks at (w .6 .ensures .takes) in (
-      w .16
-          ∙ ap GrantAnswer.First (first-listed (a .count) (firstMet (a .memory) (a .count)) (a .list .now) _ (some-met (a .memory) (a .slot) (a .count) (a .list .now) t) (taken .listed))
-          ∙ first-answered error _ (accepted-none error is test (w .0 .taken)),
+    (λ (accepted, _, _, _, _, _, took-met, _, _, drew, _, list-is, cursor-is, com-is, slots-are, reserves-are, answer-is).
+    let t = told end (accepted .taken) in
+    let read = own-slot (frame-at at) _ (t .ready .below) in
+    let index = at-is (frame-at at) (t .ready .below) in
+    let taken = rw first-blocks at (took-met .ensures .takes) in (
+      answer-is
+          ∙ ap GrantAnswer.First (first-listed (a .count) blocks (a .list .now) _ (some-met (a .memory) (a .slot) (a .count) (a .list .now) t) (taken .listed))
+          ∙ first-answered error _ (none-held verdict (accepted .taken)),
       (
-        same-parts (a .memory) refl (w .13) (w .14 ∙ ap₂ (set (a .memory .slots)) at refl) refl
-            ∙ took (a .memory) (a .slot) (a .count) (c .if1 .first) _ (c .if1 .reserves) read (firstMet (a .memory) (a .count)) (a .list .now) _ _ _ taken
-            (w .12 ∙ rw first-blocks at (w .6 .ensures .moves))
-            (w .15 ∙ w .9 .ensures ∙ ap (λ (i : ℕ). set (a .memory .reserves) i (drawing (getD (a .memory .reserves) i noReserve) (a .count))) at)
+        same-parts (a .memory) refl com-is (slots-are ∙ ap₂ (set (a .memory .slots)) index refl) refl
+            ∙ took (a .memory) (a .slot) (a .count) (c .if1 .first) _ (c .if1 .reserves) read blocks (a .list .now) _ _ _ taken
+            (cursor-is ∙ rw first-blocks at (took-met .ensures .moves))
+            (reserves-are ∙ drew .ensures ∙ ap (λ (i : ℕ). set (a .memory .reserves) i (drawing (getD (a .memory .reserves) i noReserve) (a .count))) index)
             (met-length (a .memory) (a .count) (valid-parts _ (t .ready .is-valid) .cursor-below) (t .enough))
-            ∙ accepted-leaves error new (a .memory) is test (w .0 .taken),
-        w .11 ∙ taken .listed ∙ accepted-leaves error list (a .list .now) is test (w .0 .taken),
+            ∙ leaves-new verdict new (a .memory) (accepted .taken),
+        list-is ∙ taken .listed ∙ leaves-new verdict list (a .list .now) (accepted .taken),
       ),
     ))
-    (λ w. (
-      w .6 ∙ tested .before .grant .ensures ∙ ap (λ (e : Option Error). granted e 0) (error-of error is) ∙ none-answered error 0 _ is test (w .0 .left),
+    (λ (refused, list-is, cursor-is, com-is, slots-are, reserves-are, answer-is). (
+      answer-is ∙ end .before .grant .ensures ∙ ap (λ (e : Option Error). granted e 0) (error-is verdict) ∙ none-answered error 0 _ (verdict .is) (verdict .test) (refused .left),
       (
-        same-parts (a .memory) (w .2) (w .3) (w .4) (w .5)
-            ∙ refused-leaves error new (a .memory) is test (w .0 .left),
-        w .1 ∙ refused-leaves error list (a .list .now) is test (w .0 .left),
+        same-parts (a .memory) cursor-is com-is slots-are reserves-are ∙ leaves-old verdict new (a .memory) (refused .left),
+        list-is ∙ leaves-old verdict list (a .list .now) (refused .left),
       ),
     ))
     (c .if1 .came)
@@ -202,13 +233,14 @@ allocate-spec =
     array-copy-out-own
     open-requires
     others-requires
-    enough-requires
+    available-now-requires
+    grant-causes-requires
     grant-requires
     is-accepted-requires
     take-met-requires
     mul-slots
     array-set-from-slots
     draw-requires
-    slice-read-t48
+    slice-read-t50
     same-length
     returns)

@@ -21,7 +21,7 @@ use Rattle.model_types.specs.declared.memory.Memory.{Memory}
 use Rattle.model_types.specs.Memory.{slotAt}
 use Rattle.model.specs.First.{Cause, first, _⇒_}
 use Rattle.model.specs.Reserves.{othersReserved}
-use Rattle.model.specs.Causes.{ofVolume, extentStarts, noExtent}
+use Rattle.model.specs.Causes.{ofAvailable, extentStarts, noExtent}
 use Rattle.model.specs.CauseLists.{openCauses, ofSlot, requestCauses, spareCauses}
 use Rattle.model.specs.Calls.Precommit.{precommitError}
 use Rattle.model.specs.Calls.AllocateExtent.{allocateExtentError, nearestExtent}
@@ -32,7 +32,7 @@ use Rattle.model.proofs.Laws.Accepted.{count-some, count-few, block-below, prec
 use Rattle.model.proofs.Laws.Extents.{nearestStart, nearest-extent, nearest-at, nearest-length}
 use Rattle.verdicts.specs.declared.verdict.Verdict.{Verdict}
 use Rattle.verdicts.specs.Verdicts.{verdict, isAccepted, unlessHolds, thenCauses}
-use Rattle.verdicts.proofs.Laws.Verdicts.{one-more, then-causes, then-read, then-passed, none-before, tested-last, unless-passed, accepted-none}
+use Rattle.verdicts.proofs.Laws.Verdicts.{one-more, then-causes, then-known, then-passed, none-before, tested-last, unless-passed, accepted-none}
 use Rattle.available.specs.Take.{Takes}
 use Rattle.extents.specs.Take.{CanTake, LiesIn, TakesExtent}
 use Rattle.extents.specs.Nearest.{CanSearch}
@@ -73,20 +73,16 @@ module _ (memory : Memory) (s count near : ℕ) (list : List ℕ) where
         (asked ∙ ap (λ (v : Verdict). thenCauses v (requestCauses (memory .blocks) count near list)) is-open ∙ then-causes _ _)
         ∙ one-more _ (noExtent memory count) NoExtent
 
-    -- so an extent that was found is in a volume that isn't too large
-    pub found-few : {found : Verdict} (t : Bool) → found ≡ unlessHolds request t NoExtent → isAccepted found ≡ true → memory .blocks ≤ maxBlocks
-    found-few t e accepted = can-search (unless-passed request t NoExtent e accepted) .volume
-
     -- and 24 behind it
-    pub extent-verdict : {found v : Verdict} {t : Bool} (reserved : ℕ)
+    pub extent-verdict : {found v : Verdict} {t : Bool} (told reserved : ℕ)
         → found ≡ unlessHolds request t NoExtent
         → (isAccepted request ≡ true → t ≡ noExtent memory count)
-        → v ≡ thenCauses found (ofVolume spareCauses memory count reserved)
-        → (precommitError memory s ≡ none → reserved ≡ othersReserved (memory .reserves) s)
+        → v ≡ thenCauses found (spareCauses told count reserved)
+        → (precommitError memory s ≡ none → spareCauses told count reserved ≡ ofAvailable spareCauses memory count (othersReserved (memory .reserves) s))
         → v ≡ verdict (allocateExtentError memory s count near list)
     unfolding precommitError allocateExtentError
-    extent-verdict reserved e tested spared others =
-        then-read earlierCauses (ofVolume spareCauses memory count) spared (found-verdict e tested)
+    extent-verdict told reserved e tested spared others =
+        then-known earlierCauses spared (found-verdict e tested)
         (λ passed. others (none-before (ofSlot openCauses memory s) _ passed))
 
   -- ---- the search

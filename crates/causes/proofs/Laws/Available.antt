@@ -19,6 +19,7 @@ use Rattle.model.specs.CauseLists.{spareCauses}
 use Rattle.model.specs.Reserves.{totalReserved, othersReserved}
 use Rattle.model.specs.Valid.{valid}
 use Rattle.model.proofs.Laws.Valid.{valid-parts}
+use Rattle.model.proofs.Laws.Reserves.{total-split}
 use Rattle.validity.specs.declared.Checked.{Checked}
 use Rattle.validity.specs.Checks.{Checks}
 use Rattle.verdicts.specs.declared.verdict.Verdict.{Verdict}
@@ -49,15 +50,15 @@ module _ (memory : Memory) (checked : Checked) (is : Checks memory checked) (sou
       go false e h = told false e
 
   -- where nothing is reserved, nothing is reserved for others, so that any number will do
-  pub spared-same : (s count : ℕ) → othersReserved (memory .reserves) s ≤ totalReserved (memory .reserves)
+  pub spared-same : (s count : ℕ)
       → spareCauses (checked .available) count (othersReserved (memory .reserves) s) ≡ ofAvailable spareCauses memory count (othersReserved (memory .reserves) s)
   unfolding reservedForOthers
-  spared-same s count few = go (eqb (totalReserved (memory .reserves)) 0) refl
+  spared-same s count = go (eqb (totalReserved (memory .reserves)) 0) refl
     where
       go : (t : Bool) → eqb (totalReserved (memory .reserves)) 0 ≡ t
           → spareCauses (checked .available) count (othersReserved (memory .reserves) s) ≡ ofAvailable spareCauses memory count (othersReserved (memory .reserves) s)
       go true e =
-          let none-reserved : othersReserved (memory .reserves) s ≤ 0 = omega (arith, few, eqb-true (totalReserved (memory .reserves)) 0 e) in
+          let none-reserved : othersReserved (memory .reserves) s ≤ 0 = omega (arith, total-split (memory .reserves) s, eqb-true (totalReserved (memory .reserves)) 0 e) in
           let not-fewer : (n : ℕ) → ltb (n - count) (othersReserved (memory .reserves) s) ≡ false =
           λ n. le-ltb (n - count) (othersReserved (memory .reserves) s) (omega (arith, none-reserved)) in
           ap (λ (t : Bool). t ⇒ ReservedForOthers ∷ []) (not-fewer (checked .available) ∙ sym (not-fewer (length (available memory))))

@@ -17,7 +17,7 @@ use Rattle.model_types.specs.declared.memory.Memory.{Memory}
 use Rattle.model_types.specs.Answers.{due}
 use Rattle.model_types.specs.Memory.{slotAt, volumeWords}
 use Rattle.model.specs.Touched.{touched, touchedBlocks}
-use Rattle.model.specs.Causes.{ofVolume}
+use Rattle.model.specs.Available.{available}
 use Rattle.model.specs.CauseLists.{openCauses, ofSlot, costCauses}
 use Rattle.model.specs.Reserves.{othersReserved}
 use Rattle.model.specs.Calls.Precommit.{precommitError}
@@ -25,17 +25,18 @@ use Rattle.model.specs.Calls.CommitCost.{commitCostError, costFor, commitCost, 
 use Rattle.model.proofs.Laws.Valid.{ValidParts, slot-below}
 use Rattle.verdicts.specs.declared.verdict.Verdict.{Verdict}
 use Rattle.verdicts.specs.Verdicts.{verdict, thenCauses}
-use Rattle.verdicts.proofs.Laws.Verdicts.{then-read}
+use Rattle.verdicts.proofs.Laws.Verdicts.{both-read}
 
 module _ (memory : Memory) (s count : ℕ) where
   -- its own causes after those of an open slot
-  pub cost-verdict : {v earlier : Verdict} (reserved : ℕ)
-      → v ≡ thenCauses earlier (ofVolume costCauses memory count reserved)
+  pub cost-verdict : {v earlier : Verdict} (counted reserved : ℕ)
+      → v ≡ thenCauses earlier (costCauses counted count reserved)
       → earlier ≡ verdict (precommitError memory s)
+      → (precommitError memory s ≡ none → counted ≡ length (available memory))
       → (precommitError memory s ≡ none → reserved ≡ othersReserved (memory .reserves) s)
       → v ≡ verdict (commitCostError memory s count)
   unfolding precommitError commitCostError
-  cost-verdict reserved e f g = then-read (ofSlot openCauses memory s) (ofVolume costCauses memory count) e f g
+  cost-verdict counted reserved e f g h = both-read (ofSlot openCauses memory s) (λ (n m : ℕ). costCauses n count m) e f g h
 
   module _ (parts : ValidParts memory) where
     -- t: the blocks of whole bitmaps are those below m, since no bitmap has bits from m on

@@ -1,7 +1,8 @@
 -- The causes of an open slot and of the block decide; accepted, the bitmaps are the definition's.
 use Prim.Native.Nat.{ℕ, _<_}
 use native.Mathlib.Omega.{arith}
-use mathlib.Core.Path.{_≡_, refl, ap, ap₂, _∙_}
+use mathlib.Core.Path.{_≡_, ap, ap₂, _∙_}
+use mathlib.Core.Bool.{true}
 use mathlib.Core.Logic.{⊎-elim}
 use mathlib.Core.List.{List}
 use lib.ListN.{set}
@@ -15,46 +16,65 @@ use Rattle.model.specs.Calls.Precommit.{precommitError}
 use Rattle.model.specs.Calls.Deallocate.{deallocateError, freeing, deallocateAnswer, deallocateMemory}
 use Rattle.model_types.proofs.Laws.Shape.{Shaped, shaped}
 use Rattle.model.proofs.Laws.Valid.{valid-parts}
-use Rattle.model.proofs.Laws.Accepted.{DeallocateAccepted, precommit-accepted, deallocate-accepted}
+use Rattle.model.proofs.Laws.Accepted.{DeallocateAccepted, deallocate-accepted}
 use Rattle.verdicts.specs.Verdicts.{verdict}
-use Rattle.verdicts.proofs.Laws.Verdicts.{error-of, accepted-none, accepted-leaves, refused-leaves}
-use Rattle.verdicts.proofs.Laws.Ready.{index-is, own-slot, owner-read, open-verdict}
+use Rattle.verdicts.proofs.Laws.Frame.{Frame, Judged, owner-read, at-is, own-slot, open-verdict, open-passed, none-held, error-is, leaves-new, leaves-old}
 use Rattle.deallocate.proofs.Laws.Deallocate.{deallocate-verdict, cleared-com, cleared-tam}
 use borrow.Author.Needs.{needs}
 use Rattle.deallocate.proofs.deallocate.Statement.{statement}
 use Rattle.deallocate.proofs.deallocate.Tie as tie
 
--- ---- what is known on the way
+-- ---- the places, each from the next one behind it
+
+abbrev begun : tie.After-owner → tie.Start
+begun c = c .before .before .before .before .before
+
+abbrev owned : tie.After-valid → tie.After-owner
+owned c = c .before .before .before .before .before .before
+
+abbrev tested : tie.After-slot-index → tie.After-valid
+tested c = c .before
+
+abbrev looked : tie.After-open → tie.After-slot-index
+looked c = c .before .before
+
+abbrev opened : tie.After-block-causes → tie.After-open
+opened c = c .before .before .before .before .before
+
+abbrev judged : tie.After-is-accepted → tie.After-block-causes
+judged c = c .before .before
+
+abbrev entered : tie.After-slot-index → tie.Start
+entered c = begun (owned (tested c))
+
+-- ---- what is known there
 
 shape-at : (c : tie.Start) → Shaped (c .args .memory)
 shape-at c = shaped (c .args .memory) _ (c .good .0)
 
--- where the causes of an open slot are tested
-abbrev entered : tie.After-open → tie.Start
-entered c = c .before .before .before .before .before .before .before .before .before .before .before .before .before .before
+frame-at : (c : tie.After-slot-index) → Frame (entered c .args .memory) (entered c .args .slot) (c .slot-index .result) (tested c .valid .result .sound)
+frame-at c = record { shape = shape-at (entered c); index = c .slot-index .ensures; tested = tested c .valid .ensures .sound }
 
-open-is : (c : tie.After-open) → c .open .result ≡ verdict (precommitError (entered c .args .memory) (entered c .args .slot))
-open-is c =
-    open-verdict (entered c .args .memory) _ (entered c .args .slot) (shape-at (entered c))
-    (c .before .before .slot-index .ensures) (c .before .before .before .valid .ensures) (c .open .ensures)
+open-at : (c : tie.After-open) → let a = entered (looked c) .args in c .open .result ≡ verdict (precommitError (a .memory) (a .slot))
+open-at c = open-verdict (frame-at (looked c)) _ (c .open .ensures)
 
--- where all are
-abbrev opened : tie.After-is-accepted → tie.After-open
-opened c = c .before .before .before .before .before .before .before
-
-verdict-is : (c : tie.After-is-accepted)
-    → c .before .before .held .result
-    ≡ verdict (deallocateError (entered (opened c) .args .memory) (entered (opened c) .args .slot) (entered (opened c) .args .block))
-verdict-is c =
-    let a = entered (opened c) .args in
-    deallocate-verdict (a .memory) (a .slot) (a .block) (c .before .before .held .ensures) (open-is (opened c))
+verdict-at : (c : tie.After-is-accepted)
+    → let a = entered (looked (opened (judged c))) .args in
+    Judged (deallocateError (a .memory) (a .slot) (a .block)) (judged c .block-causes .result) (c .is-accepted .result)
+verdict-at c =
+    let a = entered (looked (opened (judged c))) .args in
+    record {
+      is = deallocate-verdict (a .memory) (a .slot) (a .block) (judged c .block-causes .ensures) (open-at (opened (judged c)));
+      test = c .is-accepted .ensures;
+    }
 
 -- where none holds
-told : (c : tie.Then1) → DeallocateAccepted (entered (opened (c .before)) .args .memory) (entered (opened (c .before)) .args .slot) (entered (opened (c .before)) .args .block)
-told c = deallocate-accepted _ _ _ (accepted-none _ (verdict-is (c .before)) (c .before .is-accepted .ensures) (c .if1 .taken))
+told : (c : tie.After-is-accepted) → c .is-accepted .result ≡ true
+    → let a = entered (looked (opened (judged c))) .args in DeallocateAccepted (a .memory) (a .slot) (a .block)
+told c taken = deallocate-accepted _ _ _ (none-held (verdict-at c) taken)
 
-fits : (c : tie.Then1) → entered (opened (c .before)) .args .block < maxBlocks
-fits c = let t = told c in omega (arith, t .block-below, valid-parts _ (t .ready .is-valid) .few-blocks)
+fits : (c : tie.Then1) → entered (looked (opened (judged (c .before)))) .args .block < maxBlocks
+fits c = let t = told (c .before) (c .if1 .taken) in omega (arith, t .block-below, valid-parts _ (t .ready .is-valid) .few-blocks)
 
 -- ---- the needs
 
@@ -69,9 +89,9 @@ array-copy-out-owner c = search needs
 
 valid-requires : tie.Need-valid-requires
 valid-requires c κs =
-    let b = c .before .before .before .before .before .before .before .before .before .before in
-    let shape = shape-at b in
-    (shape .sam, (shape .com, owner-read (b .args .memory) _ shape (c .before .before .before .before .before .owner .ensures)))
+    let owner = c .before .before .before .before .before in
+    let shape = shape-at (begun owner) in
+    (shape .sam, (shape .com, owner-read (begun owner .args .memory) _ shape (owner .owner .ensures)))
 
 slot-index-requires : tie.Need-slot-index-requires
 slot-index-requires c κs = search needs
@@ -85,10 +105,10 @@ array-copy-out-own c = search needs
 open-requires : tie.Need-open-requires
 open-requires c κs = search needs
 
-held-requires : tie.Need-held-requires
-held-requires c κs e =
+block-causes-requires : tie.Need-block-causes-requires
+block-causes-requires c κs e =
     let opened = c .before .before .before .before in
-    valid-parts _ (precommit-accepted _ _ (accepted-none _ (open-is opened) refl e) .ready .is-valid) .few-blocks
+    valid-parts _ (open-passed _ _ (open-at opened) e .is-valid) .few-blocks
 
 answer-requires : tie.Need-answer-requires
 answer-requires c κs = search needs
@@ -111,30 +131,28 @@ array-set-from-slots c = search needs
 returns : tie.Need-returns
 unfolding deallocateAnswer deallocateMemory freeing
 returns c =
-    let tested = c .before in
-    let a = entered (opened tested) .args in
-    let shape = shape-at (entered (opened tested)) in
-    let looked = opened tested .before .before .slot-index .ensures in
-    let error = deallocateError (a .memory) (a .slot) (a .block) in
-    let test = tested .is-accepted .ensures in (
-      tested .before .answer .ensures ∙ ap done (error-of error (verdict-is tested)),
+    let accepted-or-not = c .before in
+    let at = looked (opened (judged accepted-or-not)) in
+    let a = entered at .args in
+    let shape = shape-at (entered at) in
+    let verdict = verdict-at accepted-or-not in (
+      accepted-or-not .before .answer .ensures ∙ ap done (error-is verdict),
       ⊎-elim
-          (λ w.
-          let t = told (record { before = tested; if1 = w .0 }) in
-          let below = t .ready .below in
-          let read = own-slot (a .memory) _ (a .slot) shape looked below in
+          (λ (accepted, _, in-com, _, in-tam, com-is, slots-are).
+          let t = told accepted-or-not (accepted .taken) in
+          let read = own-slot (frame-at at) _ (t .ready .below) in
           ap₂ (λ («com» : Bitmap) (slots : List Slot). withSlots (withCom (a .memory) «com») slots)
-          (w .5 ∙ ap bitmap (w .2 .ensures ∙ cleared-com (a .memory) (a .slot) (a .block) shape (t .ready .is-valid) (t .block-below)))
-          (w .6
-          ∙ ap₂ (set (a .memory .slots)) (index-is (a .slot) looked below)
+          (com-is ∙ ap bitmap (in-com .ensures ∙ cleared-com (a .memory) (a .slot) (a .block) shape (t .ready .is-valid) (t .block-below)))
+          (slots-are
+          ∙ ap₂ (set (a .memory .slots)) (at-is (frame-at at) (t .ready .below))
           (ap₂ (λ (slot : Slot) (words : List ℕ). withTam slot (bitmap words)) read
-          (w .4 .ensures
+          (in-tam .ensures
           ∙ ap (λ (slot : Slot). clearBit (slot .tam .words) (a .block)) read
           ∙ cleared-tam (a .memory) (a .slot) (a .block) shape (t .ready .is-valid) (t .block-below))))
-          ∙ accepted-leaves error (freeing (a .memory) (a .slot) (a .block)) (a .memory) (verdict-is tested) test (w .0 .taken))
-          (λ w.
-          ap₂ (λ («com» : Bitmap) (slots : List Slot). withSlots (withCom (a .memory) «com») slots) (w .1) (w .2)
-          ∙ refused-leaves error (freeing (a .memory) (a .slot) (a .block)) (a .memory) (verdict-is tested) test (w .0 .left))
+          ∙ leaves-new verdict (freeing (a .memory) (a .slot) (a .block)) (a .memory) (accepted .taken))
+          (λ (refused, com-is, slots-are).
+          ap₂ (λ («com» : Bitmap) (slots : List Slot). withSlots (withCom (a .memory) «com») slots) com-is slots-are
+          ∙ leaves-old verdict (freeing (a .memory) (a .slot) (a .block)) (a .memory) (refused .left))
           (c .if1 .came),
     )
 
@@ -150,7 +168,7 @@ deallocate-spec =
     mul-own
     array-copy-out-own
     open-requires
-    held-requires
+    block-causes-requires
     answer-requires
     is-accepted-requires
     clear-requires

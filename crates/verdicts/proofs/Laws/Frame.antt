@@ -17,6 +17,7 @@ use Rattle.model_types.specs.declared.error.Error.the-variants.{SlotRange}
 use Rattle.model.specs.First.{Cause, first, firstOr, unlessRefused, _⇒_}
 use Rattle.model_types.specs.Memory.{slotAt, idleSlot}
 use Rattle.model_types.specs.Pending.{ownerOf}
+use Rattle.model.specs.Reserves.{othersReserved}
 use Rattle.model.specs.Valid.{valid}
 use Rattle.model.specs.Causes.{slotOutOfRange}
 use Rattle.model.specs.CauseLists.{readyCauses, idleCauses, openCauses, precommittedCauses}
@@ -26,6 +27,7 @@ use Rattle.model.specs.Calls.Committing.{commitError}
 use Rattle.model.specs.Calls.Drop.{dropError}
 use Rattle.model.specs.Calls.Revoke.{revokeError}
 use Rattle.model_types.proofs.Laws.Shape.{Shaped, slot-read}
+use Rattle.model.proofs.Laws.Accepted.{Ready, start-accepted, precommit-accepted}
 use Rattle.verdicts.specs.declared.verdict.Verdict.{Verdict}
 use Rattle.verdicts.specs.Verdicts.{verdict, errorOf, isAccepted}
 use Rattle.verdicts.proofs.Laws.Verdicts.{accepted-none, error-of, accepted-leaves, refused-leaves}
@@ -113,6 +115,18 @@ module _ {at : ℕ} {v : Verdict} {sound : Bool} {memory : Memory} {s : ℕ} (fr
   pub revoke-verdict : v ≡ verdict (first (precommittedCauses sound (memory .pending) s (getD (memory .slots) at d .state))) → v ≡ verdict (revokeError memory s)
   unfolding revokeError commitError
   revoke-verdict e = precommitted-verdict e
+
+-- a call that its slot's causes let pass has a valid memory and such a slot
+pub open-passed : {v : Verdict} (memory : Memory) (s : ℕ) → v ≡ verdict (precommitError memory s) → isAccepted v ≡ true → Ready memory s
+open-passed memory s e f = precommit-accepted memory s (accepted-none _ e refl f) .ready
+
+pub idle-passed : {v : Verdict} (memory : Memory) (s : ℕ) → v ≡ verdict (startError memory s) → isAccepted v ≡ true → Ready memory s
+idle-passed memory s e f = start-accepted memory s (accepted-none _ e refl f) .ready
+
+-- what is reserved for the others, added up without the slot at this place
+pub others-read : {at n : ℕ} {sound : Bool} {memory : Memory} {s : ℕ} → Frame memory s at sound → n ≡ othersReserved (memory .reserves) at → s < slotCount
+    → n ≡ othersReserved (memory .reserves) s
+others-read {memory = memory} frame e below = e ∙ ap (othersReserved (memory .reserves)) (at-is frame below)
 
 -- ---- and what it answers and leaves
 

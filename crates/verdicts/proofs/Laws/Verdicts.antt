@@ -63,19 +63,19 @@ then-same : (found : Option Error) (xs ys : List Cause) → (found ≡ none → 
 then-same none xs ys e = ap (thenCauses Verdict.Accepted) (e refl)
 then-same (some error) xs ys e = refl
 
--- a list that goes on with causes of a number, which is the right one where none held before
-pub then-read : {v earlier : Verdict} {read right : ℕ} (xs : List Cause) (causes : ℕ → List Cause)
-    → v ≡ thenCauses earlier (causes read) → earlier ≡ verdict (first xs) → (first xs ≡ none → read ≡ right) → v ≡ verdict (first (xs ++ causes right))
-then-read xs causes e f g = e ∙ rw f (then-same (first xs) _ _ (λ passed. ap causes (g passed)) ∙ then-causes xs _)
+-- a list that goes on with causes that are right where none held before
+pub then-known : {v earlier : Verdict} {read right : List Cause} (xs : List Cause)
+    → v ≡ thenCauses earlier read → earlier ≡ verdict (first xs) → (first xs ≡ none → read ≡ right) → v ≡ verdict (first (xs ++ right))
+then-known xs e f g = e ∙ rw f (then-same (first xs) _ _ g ∙ then-causes xs _)
 
--- the same of two numbers
+-- or with causes of two numbers
 pub both-read : {v earlier : Verdict} {read right read' right' : ℕ} (xs : List Cause) (causes : ℕ → ℕ → List Cause)
     → v ≡ thenCauses earlier (causes read read')
     → earlier ≡ verdict (first xs)
     → (first xs ≡ none → read ≡ right)
     → (first xs ≡ none → read' ≡ right')
     → v ≡ verdict (first (xs ++ causes right right'))
-both-read xs causes e f g h = e ∙ rw f (then-same (first xs) _ _ (λ passed. ap₂ causes (g passed) (h passed)) ∙ then-causes xs _)
+both-read xs causes e f g h = then-known xs e f (λ passed. ap₂ causes (g passed) (h passed))
 
 -- what is refused stays so
 pub then-refused : {t : Bool} (v : Verdict) (causes : List Cause) → t ≡ isAccepted v → t ≡ false → v ≡ thenCauses v causes

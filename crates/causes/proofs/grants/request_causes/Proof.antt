@@ -4,8 +4,8 @@ use mathlib.Core.Bool.{not}
 use Rattle.model.specs.Causes.{countOutOfRange, listShort, blockOutOfRange}
 use Rattle.verdicts.proofs.Laws.Verdicts.{none-behind, one-behind}
 use borrow.Author.Needs.{needs}
-use Rattle.causes.proofs.grants.request.Statement.{statement}
-use Rattle.causes.proofs.grants.request.Tie as tie
+use Rattle.causes.proofs.grants.request_causes.Statement.{statement}
+use Rattle.causes.proofs.grants.request_causes.Tie as tie
 
 count-in-range-requires : tie.Need-count-in-range-requires
 count-in-range-requires c κs = search needs
@@ -31,5 +31,5 @@ returns c =
     refl)
     refl
 
-pub request-spec : {M : Type 1} → statement M
-request-spec = tie.close (tie.spec count-in-range-requires unless-requires unless-requires-2 unless-requires-3 returns)
+pub request-causes-spec : {M : Type 1} → statement M
+request-causes-spec = tie.close (tie.spec count-in-range-requires unless-requires unless-requires-2 unless-requires-3 returns)

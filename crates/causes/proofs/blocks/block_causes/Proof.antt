@@ -10,8 +10,8 @@ use Rattle.bitmap.specs.Bits.{bit}
 use Rattle.verdicts.proofs.Laws.Verdicts.{then-refused, then-accepted}
 use Rattle.causes.proofs.Laws.Blocks.{range-refused, free-refused, freeing-refused, block-accepted}
 use borrow.Author.Needs.{needs}
-use Rattle.causes.proofs.blocks.held.Statement.{statement}
-use Rattle.causes.proofs.blocks.held.Tie as tie
+use Rattle.causes.proofs.blocks.block_causes.Statement.{statement}
+use Rattle.causes.proofs.blocks.block_causes.Tie as tie
 
 -- ---- what is known on the way
 
@@ -72,8 +72,8 @@ returns-5 c =
     (block-accepted (a .blocks) (now (a .sam)) (now (a .com)) (a .block) (held .before .before .if2 .left) (allocated held)
     (sym (c .before .has2 .ensures) ∙ not-false _ (c .if4 .left)))
 
-pub held-spec : {M : Type 1} → statement M
-held-spec =
+pub block-causes-spec : {M : Type 1} → statement M
+block-causes-spec =
     tie.close
     (tie.spec
     is-accepted-requires

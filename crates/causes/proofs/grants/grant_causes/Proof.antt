@@ -4,8 +4,8 @@ use mathlib.Core.Bool.{not}
 use Rattle.model.specs.Causes.{countOutOfRange, listShort, tooFewAvailable}
 use Rattle.verdicts.proofs.Laws.Verdicts.{none-behind, one-behind, list-behind}
 use borrow.Author.Needs.{needs}
-use Rattle.causes.proofs.grants.grant.Statement.{statement}
-use Rattle.causes.proofs.grants.grant.Tie as tie
+use Rattle.causes.proofs.grants.grant_causes.Statement.{statement}
+use Rattle.causes.proofs.grants.grant_causes.Tie as tie
 
 count-in-range-requires : tie.Need-count-in-range-requires
 count-in-range-requires c κs = search needs
@@ -19,8 +19,8 @@ unless-requires-2 c κs = search needs
 unless-requires-3 : tie.Need-unless-requires-3
 unless-requires-3 c κs = search needs
 
-spare-requires : tie.Need-spare-requires
-spare-requires c κs = search needs
+spare-causes-requires : tie.Need-spare-causes-requires
+spare-causes-requires c κs = search needs
 
 -- ---- the places, each from the next one behind it
 
@@ -36,12 +36,12 @@ returns c =
     let enough = c .before in
     let first = counted enough in
     let v = begun first .args .earlier in
-    list-behind v _ _ (c .spare .ensures)
+    list-behind v _ _ (c .spare-causes .ensures)
     (one-behind v _ _ _ (enough .unless3 .ensures)
     (one-behind v _ _ _ (enough .before .unless2 .ensures)
     (one-behind v _ _ _ (first .unless .ensures) (none-behind v) (ap not (first .before .count-in-range .ensures)))
     refl)
     refl)
 
-pub grant-spec : {M : Type 1} → statement M
-grant-spec = tie.close (tie.spec count-in-range-requires unless-requires unless-requires-2 unless-requires-3 spare-requires returns)
+pub grant-causes-spec : {M : Type 1} → statement M
+grant-causes-spec = tie.close (tie.spec count-in-range-requires unless-requires unless-requires-2 unless-requires-3 spare-causes-requires returns)

@@ -4,8 +4,8 @@ use mathlib.Core.Path.{refl}
 use Rattle.model.specs.Causes.{overReserved}
 use Rattle.verdicts.proofs.Laws.Verdicts.{none-behind, one-behind}
 use borrow.Author.Needs.{needs}
-use Rattle.causes.proofs.grants.room.Statement.{statement}
-use Rattle.causes.proofs.grants.room.Tie as tie
+use Rattle.causes.proofs.grants.room_causes.Statement.{statement}
+use Rattle.causes.proofs.grants.room_causes.Tie as tie
 
 add-unless : tie.Need-add-unless
 add-unless c = omega (arith, c .pre)
@@ -19,5 +19,5 @@ returns c =
     let v = c .before .args .earlier in
     one-behind v _ _ _ (c .unless .ensures) (none-behind v) refl
 
-pub room-spec : {M : Type 1} → statement M
-room-spec = tie.close (tie.spec add-unless unless-requires returns)
+pub room-causes-spec : {M : Type 1} → statement M
+room-causes-spec = tie.close (tie.spec add-unless unless-requires returns)
