@@ -46,14 +46,14 @@ pub fn commit_matches(
     ensures { λ r. ⌜ r ≡ imageMatches blocks (now (sam .entry)) (now (disk .entry)) done (commitStores (changes (now (sam .entry)) (now (new .entry)))) ⌝ }
 {
     let changed = Pending::changed_for(due);
-    let phase = Phase::after(changed as usize, done as usize);
+    let words = changed as usize;
+    let phase = Phase::after(words, done as usize);
+    let checkpointed = phase.checkpointed(words);
     if !head_matches(disk, blocks, phase.log_length(changed)) {
         return false;
     }
     if !kept_match(disk, sam, new) {
         return false;
     }
-    let words = changed as usize;
-    let checkpointed = phase.checkpointed(words);
     changed_match(disk, done as usize, checkpointed, words, sam, new)
 }

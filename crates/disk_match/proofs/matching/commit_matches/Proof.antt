@@ -25,14 +25,17 @@ start c = c .before .before
 abbrev counted : tie.After-after → tie.After-changed-for
 counted c = c .before
 
+abbrev measured : tie.After-head-matches → tie.After-checkpointed
+measured c = c .before .before
+
 abbrev phased : tie.After-head-matches → tie.After-after
-phased c = c .before .before
+phased c = measured c .before
 
 abbrev headed : tie.After-kept-match → tie.Else1
 headed c = c .before
 
 abbrev kept : tie.After-changed-match → tie.Else2
-kept c = c .before .before
+kept c = c .before
 
 abbrev entered : tie.After-after → tie.Start
 entered c = start (counted c)
@@ -75,13 +78,16 @@ head-matched c = sym (head-is (c .before)) ∙ not-false _ (c .if1 .left)
 changed-for-requires : tie.Need-changed-for-requires
 changed-for-requires c κs = search needs
 
-cast-after : tie.Need-cast-after
-cast-after c = search needs
+cast-words : tie.Need-cast-words
+cast-words c = search needs
 
 after-requires : tie.Need-after-requires
 after-requires c κs =
     let a = start c .args in
     (changed-few (now (a .sam)) (now (a .new)) (changing c), omega (arith, c .changed-for .ensures))
+
+checkpointed-requires : tie.Need-checkpointed-requires
+checkpointed-requires c κs = search needs
 
 log-length-requires : tie.Need-log-length-requires
 log-length-requires c κs = search needs
@@ -102,15 +108,9 @@ returns-2 c =
     (tests (phased (past .before))
     ∙ stop-second _ (head-matched past) (sym (c .before .kept-match .ensures) ∙ not-true _ (c .if2 .taken)))
 
-cast-words : tie.Need-cast-words
-cast-words c = search needs
-
-checkpointed-requires : tie.Need-checkpointed-requires
-checkpointed-requires c κs = search needs
-
 changed-match-requires : tie.Need-changed-match-requires
 changed-match-requires c κs =
-    let past = headed (c .before .before) in
+    let past = headed (c .before) in
     (search needs, changing (counted (phased (past .before))))
 
 returns-3 : tie.Need-returns-3
@@ -120,7 +120,7 @@ returns-3 c =
     let at = phased (past .before) in
     let a = entered at .args in
     c .changed-match .ensures
-    ∙ ap (λ (n : ℕ). changedMatch (now (a .disk)) (a .done) n 0 0 (now (a .sam)) (now (a .new))) (c .before .checkpointed .ensures)
+    ∙ ap (λ (n : ℕ). changedMatch (now (a .disk)) (a .done) n 0 0 (now (a .sam)) (now (a .new))) (measured (past .before) .checkpointed .ensures)
     ∙ sym (tests at ∙ go-last _ (head-matched past) (sym (compared .kept-match .ensures) ∙ not-false _ (kept c .if2 .left)))
 
 pub commit-matches-spec : {M : Type 1} → statement M
@@ -128,14 +128,13 @@ commit-matches-spec =
     tie.close
     (tie.spec
     changed-for-requires
-    cast-after
+    cast-words
     after-requires
+    checkpointed-requires
     log-length-requires
     head-matches-requires
     returns
     kept-match-requires
     returns-2
-    cast-words
-    checkpointed-requires
     changed-match-requires
     returns-3)
