@@ -1,5 +1,5 @@
 -- What document 01's cause 6 compares, part by part and word by word.
-use Prim.Native.Nat.{ℕ, suc, _+_, _-_, _*_}
+use Prim.Native.Nat.{ℕ, suc, _+_, _*_}
 use mathlib.Core.Bool.{Bool, true, cond, _&&_}
 use mathlib.Core.List.{List, [], _∷_}
 use lib.ListN.{getD}
@@ -53,11 +53,3 @@ changedMatch disk done checkpointed k i (old ∷ olds) (new ∷ news) =
     cond (eqb old new)
     (changedMatch disk done checkpointed (suc k) i olds news)
     (wordMatches disk done checkpointed k i old new && changedMatch disk done checkpointed (suc k) (i + 1) olds news)
-
--- the log length on the disk: 0 until the commit point, and then the number of changed words
-abbrev pub lengthAfter : ℕ → ℕ → ℕ
-lengthAfter changed done = cond (leb done (2 * changed)) 0 changed
-
--- how many of the changed words are written to the bitmap: the stores after the commit point
-abbrev pub checkpointedAfter : ℕ → ℕ → ℕ
-checkpointedAfter changed done = done - (2 * changed + 1)

@@ -9,11 +9,10 @@ ghost use Rattle.model_types.specs.Pending.{storesFor};
 ghost use Rattle.model.specs.Stores.{changes, commitStores};
 ghost use Rattle.model.specs.Disk.{imageMatches};
 use crate::head::head_matches;
-use crate::progress::checkpointed_after;
-use crate::progress::length_after;
 use crate::written::changed_match;
 use crate::written::kept_match;
 use bitops::compare::same;
+use disk_log::phase::Phase;
 use disk_log::sam::bitmap;
 use model_types::memory::Pending;
 
@@ -47,19 +46,14 @@ pub fn commit_matches(
     ensures { λ r. ⌜ r ≡ imageMatches blocks (now (sam .entry)) (now (disk .entry)) done (commitStores (changes (now (sam .entry)) (now (new .entry)))) ⌝ }
 {
     let changed = Pending::changed_for(due);
-    if !head_matches(disk, blocks, length_after(changed, done)) {
+    let words = changed as usize;
+    let phase = Phase::after(words, done as usize);
+    let checkpointed = phase.checkpointed(words);
+    if !head_matches(disk, blocks, phase.log_length(changed)) {
         return false;
     }
     if !kept_match(disk, sam, new) {
         return false;
     }
-    let checkpointed = checkpointed_after(changed, done);
-    changed_match(
-        disk,
-        done as usize,
-        checkpointed,
-        changed as usize,
-        sam,
-        new,
-    )
+    changed_match(disk, done as usize, checkpointed, words, sam, new)
 }

@@ -14,6 +14,7 @@ use disk_log::layout::LENGTH_AT;
 use disk_log::layout::LOG_AT;
 use disk_log::log::contents;
 use disk_log::log::number;
+use disk_log::phase::Phase;
 
 // One word of the disk and its new contents.
 pub struct Store {
@@ -57,30 +58,30 @@ pub fn commit_next(old: &[u32; 128], new: &[u32; 128], changed: usize, done: usi
     requires { ⌜ done < storesFor changed ⌝ }
     ensures { λ r. ⌜ IsNext (commitStores (changes (now (old .entry)) (now (new .entry)))) done (r .place) (r .value) ⌝ }
 {
-    if done < 2 * changed {
-        let word = log_word(old, new, done);
-        return Store {
-            place: LOG_AT + done,
-            value: word,
-        };
-    }
-    if done == 2 * changed {
-        return Store {
+    let phase = Phase::after(changed, done);
+    match phase {
+        Phase::Log => {
+            let word = log_word(old, new, done);
+            Store {
+                place: LOG_AT + done,
+                value: word,
+            }
+        }
+        Phase::Point => Store {
             place: LENGTH_AT,
             value: changed as u32,
-        };
-    }
-    let i = done - (2 * changed + 1);
-    if i == changed {
-        return Store {
+        },
+        Phase::Word(i) => {
+            let k = changed_word(old, new, i);
+            Store {
+                place: BITMAP_AT + k,
+                value: new[k],
+            }
+        }
+        Phase::Closing => Store {
             place: LENGTH_AT,
             value: 0,
-        };
-    }
-    let k = changed_word(old, new, i);
-    Store {
-        place: BITMAP_AT + k,
-        value: new[k],
+        },
     }
 }
 

@@ -1,6 +1,4 @@
--- Slots refreshed one after the other, pending work, and the store by parts.
-pub mod Slots
-pub mod Refreshed
+-- Pending work, and the store by parts.
 pub mod Progress
 pub mod Step
 pub mod PendingWork

@@ -1,4 +1,3 @@
 -- What a store tests and makes, by parts of a memory.
-pub mod Refreshed
 pub mod Progress
 pub mod Step

@@ -8,9 +8,13 @@ use Rattle.model_types.specs.declared.memory.Pending.the-variants.{Nothing, Com
 use Rattle.model_types.specs.Pending.{isNothing}
 use Rattle.model.specs.Pending.{storesDone, storesDue, oneMoreDone}
 
--- work that is pending has a store left
+-- a store is left
+abbrev pub StoreLeft : Pending → Type 0
+StoreLeft pending = storesDone pending < storesDue pending
+
+-- as is of any work that is pending
 abbrev pub Unfinished : Pending → Type 0
-Unfinished pending = isNothing pending ≡ false → storesDone pending < storesDue pending
+Unfinished pending = isNothing pending ≡ false → StoreLeft pending
 
 -- whether the next store is the last
 abbrev pub endsWith : Pending → Bool
@@ -23,5 +27,5 @@ pendingAfter pending = cond (endsWith pending) Nothing (oneMoreDone pending)
 -- whether the next store is a commit's last
 unfoldable pub endsCommit : Pending → Bool
 endsCommit Nothing = false
-endsCommit (Commit s done due) = eqb (done + 1) due
+endsCommit (Commit s done due) = endsWith (Commit s done due)
 endsCommit (Recovery done due) = false

@@ -1,17 +1,16 @@
 // Store: the next store of the pending work, one word of the disk. The work ends with its last store.
 mod progress;
-mod refreshed;
 mod step;
 
 ghost use mathlib.Core.Path.{_≡_};
 ghost use Rattle.model.specs.Calls.Storing.{storeAnswer, storeMemory, storeDisk};
+use ending::refreshed;
 use model_types::answer::Stored;
 use model_types::answer::StoresAnswer;
 use model_types::memory::Memory;
 use progress::ends_commit;
 use progress::pending_after;
 use progress::still_due;
-use refreshed::refreshed;
 use reserves::change::use_up;
 use step::judge;
 use step::store_next;

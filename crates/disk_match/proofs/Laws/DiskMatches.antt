@@ -1,27 +1,29 @@
 -- A disk compared as a whole: the tests by which it is as SAM, or as a commit's stores, leave it.
-use Prim.Native.Nat.{ℕ, _+_, _-_, _*_, _<_}
-use mathlib.Core.Path.{_≡_, refl, sym, ap, ap₂, _∙_}
-use mathlib.Core.Bool.{Bool, true, false, cond, _&&_, and-assoc}
+use Prim.Native.Nat.{ℕ, _+_, _-_, _*_, _≤_}
+use mathlib.Core.Path.{_≡_, sym, ap, ap₂, subst, _∙_}
+use mathlib.Core.Bool.{Bool, _&&_, and-assoc}
 use mathlib.Core.List.{List, []}
 use native.Mathlib.Nat.{sub-zero}
 use native.Mathlib.Omega.{arith}
 use lib.ListN.{length, take, drop}
 use lib.Seq.{take-all}
-use lib.Dec.{leb, eqb}
-use borrow.Author.Tests.{leb-true, leb-false}
+use lib.Dec.{eqb}
 use Rattle.bitmap.specs.Sizes.{bitmapWords}
 use Rattle.model.specs.Sizes.{diskWords, bitmapAt, logAt}
-use Rattle.model_types.specs.Pending.{storesFor, changedFor}
 use Rattle.model.specs.Stores.{Store, writes, changes, logStores, commitStores}
 use Rattle.model.specs.Valid.{sameWords}
 use Rattle.model.specs.Disk.{lengthIn, diskBlocks, logLength, diskBitmap, diskOf, imageMatches}
 use Rattle.model.proofs.Laws.Writes.{length-writes, words-same}
-use Rattle.model.proofs.Laws.StoreLists.{length-logStores, changed-stores}
+use Rattle.model.proofs.Laws.StoreLists.{length-logStores}
 use Rattle.model.proofs.Laws.Changes.{changes-length}
 use Rattle.model.proofs.Laws.DiskParts.{disk-parts, disk-bitmap-length, disk-tail-length}
 use Rattle.model.proofs.Laws.CommitLog.{CommitFrom, changes-from, commitDisk, commit-before, commit-after}
+use Rattle.disk_log.specs.declared.phase.Phase.{Phase}
+use Rattle.disk_log.specs.declared.phase.Phase.the-variants.{Log, Point, Word, Closing}
+use Rattle.disk_log.specs.Given.{Changing}
+use Rattle.disk_log.specs.Phase.{InPhase, logLengthIn, checkpointedIn}
 use Rattle.disk_log.proofs.Laws.Tests.{and-right, same-append}
-use Rattle.disk_match.specs.Matching.{headIs, keptMatch, changedMatch, lengthAfter, checkpointedAfter}
+use Rattle.disk_match.specs.Matching.{headIs, keptMatch, changedMatch}
 use Rattle.disk_match.proofs.Laws.Checkpointed.{checkpoint, checkpoint-changes}
 use Rattle.disk_match.proofs.Laws.LogWords.{log-matches}
 use Rattle.disk_match.proofs.Laws.Matching.{words-match}
@@ -38,47 +40,54 @@ disk-same disk blocks p words log l m =
     ∙ sym (and-assoc (eqb (diskBlocks disk) blocks) (eqb (logLength disk) p) (sameWords (diskBitmap disk) words && sameWords (drop logAt disk) log))
 
 -- the disk after any number of a commit's stores but all, by its parts
-commit-parts : (blocks : ℕ) (sam log : List ℕ) (es : List Store) (done : ℕ) → CommitFrom sam log es → done < storesFor (length es)
+commit-parts : (blocks : ℕ) (sam log : List ℕ) (es : List Store) (done : ℕ) (phase : Phase) → CommitFrom sam log es → InPhase (length es) done phase
     → commitDisk blocks sam log es done
-    ≡ diskOf blocks (lengthAfter (length es) done) (writes (take (checkpointedAfter (length es) done) es) sam) (writes (take done (logStores 0 es)) log)
+    ≡ diskOf blocks (logLengthIn phase (length es)) (writes (take (checkpointedIn phase (length es)) es) sam) (writes (take done (logStores 0 es)) log)
 unfolding writes
-commit-parts blocks sam log es done from h = go (leb done (2 * length es)) refl
+commit-parts blocks sam log es done phase from = go phase
   where
     d : ℕ
     d = length es
 
-    go : (t : Bool) → leb done (2 * d) ≡ t → commitDisk blocks sam log es done
-        ≡ diskOf blocks (cond t 0 d) (writes (take (checkpointedAfter d done) es) sam) (writes (take done (logStores 0 es)) log)
-    go true e =
-        let none : done - (2 * d + 1) ≡ 0 = omega (arith, leb-true done (2 * d) e) in
-        commit-before blocks sam log es from done (leb-true done (2 * d) e) ∙ rw none
-    go false e =
-        let all : take done (logStores 0 es) ≡ logStores 0 es = take-all done (logStores 0 es) (omega (arith, leb-false done (2 * d) e, length-logStores 0 es)) in
-        commit-after blocks sam log es from done (leb-false done (2 * d) e) h ∙ rw all
+    -- past the commit point the log is whole
+    past : (i : ℕ) → done ≡ 2 * d + 1 + i → i ≤ d → commitDisk blocks sam log es done ≡ diskOf blocks d (writes (take i es) sam) (writes (take done (logStores 0 es)) log)
+    past i at few =
+        let all : take done (logStores 0 es) ≡ logStores 0 es = take-all done (logStores 0 es) (omega (arith, length-logStores 0 es)) in
+        let words : done - (2 * d + 1) ≡ i = omega arith in
+        commit-after blocks sam log es from done (omega arith) (omega arith) ∙ rw (all, words)
+
+    go : (phase : Phase) → InPhase d done phase → commitDisk blocks sam log es done
+        ≡ diskOf blocks (logLengthIn phase d) (writes (take (checkpointedIn phase d) es) sam) (writes (take done (logStores 0 es)) log)
+    go Log is = commit-before blocks sam log es from done (omega arith)
+    go Point is = commit-before blocks sam log es from done (omega arith)
+    go (Word i) (at, few) = past i at (omega arith)
+    go Closing is = past d is (omega arith)
 
 -- while a commit is stored: words 0 and 1, the bitmap words that stay, and those that change with the log's
-pub commit-tests : (blocks : ℕ) (disk sam new : List ℕ) (done due : ℕ) → length disk ≡ diskWords → length sam ≡ bitmapWords → length new ≡ bitmapWords
-    → due ≡ storesFor (length (changes sam new))
-    → done < due
+pub commit-tests : (blocks : ℕ) (disk sam new : List ℕ) {changed : ℕ} (done : ℕ) (phase : Phase) → length disk ≡ diskWords → Changing sam new changed
+    → InPhase changed done phase
     → imageMatches blocks sam disk done (commitStores (changes sam new))
-    ≡ (headIs disk blocks (lengthAfter (changedFor due) done)
+    ≡ (headIs disk blocks (logLengthIn phase changed)
     && keptMatch disk 0 sam new
-    && changedMatch disk done (checkpointedAfter (changedFor due) done) 0 0 sam new)
+    && changedMatch disk done (checkpointedIn phase changed) 0 0 sam new)
 unfolding imageMatches
-commit-tests blocks disk sam new done due l s n d h =
-    ap (sameWords disk) (commit-parts blocks sam log es done (changes-from sam new log s (disk-tail-length disk l)) (omega arith))
+commit-tests blocks disk sam new {changed} done phase l given is =
+    ap (sameWords disk) (commit-parts blocks sam log es done phase (changes-from sam new log s (disk-tail-length disk l)) (subst (λ (n : ℕ). InPhase n done phase) (given .changed-is) is))
     ∙ disk-same
     disk
     blocks
-    (lengthAfter (length es) done)
+    (logLengthIn phase (length es))
     (writes (take checkpointed es) sam)
     (writes (take done (logStores 0 es)) log)
     l
     (length-writes (take checkpointed es) sam ∙ s)
-    ∙ ap (λ (t : Bool). headIs disk blocks (lengthAfter (length es) done) && t) (sym words)
-    ∙ sym (and-assoc (headIs disk blocks (lengthAfter (length es) done)) (keptMatch disk 0 sam new) (changedMatch disk done checkpointed 0 0 sam new))
-    ∙ rw (d, changed-stores (length es))
+    ∙ ap (λ (t : Bool). headIs disk blocks (logLengthIn phase (length es)) && t) (sym words)
+    ∙ sym (and-assoc (headIs disk blocks (logLengthIn phase (length es))) (keptMatch disk 0 sam new) (changedMatch disk done checkpointed 0 0 sam new))
+    ∙ rw (given .changed-is)
   where
+    s : length sam ≡ bitmapWords
+    s = given .old-is .size
+
     log : List ℕ
     log = drop logAt disk
 
@@ -86,12 +95,12 @@ commit-tests blocks disk sam new done due l s n d h =
     es = changes sam new
 
     checkpointed : ℕ
-    checkpointed = checkpointedAfter (length es) done
+    checkpointed = checkpointedIn phase (length es)
 
     words : (keptMatch disk 0 sam new && changedMatch disk done checkpointed 0 0 sam new)
         ≡ (sameWords (diskBitmap disk) (writes (take checkpointed es) sam) && sameWords log (writes (take done (logStores 0 es)) log))
     words =
-        words-match disk done checkpointed 0 0 sam new (s ∙ sym n) (omega arith)
+        words-match disk done checkpointed 0 0 sam new (s ∙ sym (given .new-is .size)) (omega arith)
         ∙ ap₂ _&&_
         (ap₂
         (λ (n : ℕ) (w : List ℕ). sameWords (take n (drop bitmapAt disk)) w)

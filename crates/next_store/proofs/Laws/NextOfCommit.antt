@@ -11,7 +11,9 @@ use Rattle.bitmap.specs.Sizes.{bitmapWords}
 use Rattle.model.specs.Sizes.{lengthAt, bitmapAt, logAt}
 use Rattle.model.specs.Stores.{_≔_, changes, commitStores}
 use Rattle.model.proofs.Laws.Changes.{changes-length}
+use Rattle.disk_log.specs.declared.phase.Phase.the-variants.{Point, Word, Closing}
 use Rattle.disk_log.specs.Given.{Changing}
+use Rattle.disk_log.specs.Phase.{InPhase}
 use Rattle.next_store.specs.Next.{IsChange, IsNext}
 use Rattle.next_store.proofs.Laws.NextStore.{next-log, next-point, next-word, next-last}
 
@@ -35,20 +37,20 @@ module _ (old new : List ℕ) (o : length old ≡ bitmapWords) where
 
 module _ (old new : List ℕ) {changed : ℕ} (c : Changing old new changed) (done : ℕ) where
   -- the commit point
-  pub point-next : done ≡ 2 * changed → IsNext (commitStores (changes old new)) done lengthAt changed
-  point-next e =
+  pub point-next : InPhase changed done Point → IsNext (commitStores (changes old new)) done lengthAt changed
+  point-next is =
       record { within = omega arith; next = next-point (changes old new) done (omega (arith, c .changed-is)) ∙ rw (c .changed-is) }
 
   -- a changed word
-  pub word-next : (i k : ℕ) → done ≡ 2 * changed + 1 + i → IsChange old new i k
+  pub word-next : (i k : ℕ) → InPhase changed done (Word i) → IsChange old new i k
       → IsNext (commitStores (changes old new)) done (bitmapAt + k) (getD new k 0)
-  word-next i k e is =
+  word-next i k (at, _) is =
       record {
         within = omega (arith, is .within);
         next = next-word (changes old new) done i (k ≔ getD new k 0) (omega (arith, c .changed-is)) (is .entry);
       }
 
   -- word 1 to 0
-  pub last-next : (i : ℕ) → done ≡ 2 * changed + 1 + i → i ≡ changed → IsNext (commitStores (changes old new)) done lengthAt 0
-  last-next i e f =
-      record { within = omega arith; next = next-last (changes old new) done i (omega (arith, c .changed-is)) (f ∙ c .changed-is) }
+  pub last-next : InPhase changed done Closing → IsNext (commitStores (changes old new)) done lengthAt 0
+  last-next is =
+      record { within = omega arith; next = next-last (changes old new) done changed (omega (arith, c .changed-is)) (c .changed-is) }

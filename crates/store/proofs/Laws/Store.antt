@@ -1,13 +1,13 @@
 -- A store by parts is the store of the memory: its verdict, the disk and the memory that it leaves.
-use Prim.Native.Nat.{ℕ, suc, _+_, _<_}
-use mathlib.Core.Path.{_≡_, refl, sym, ap, ap₂, _∙_}
+use Prim.Native.Nat.{ℕ, _+_, _<_}
+use mathlib.Core.Path.{_≡_, refl, sym, ap, _∙_}
 use mathlib.Core.Bool.{Bool, true, false, not, cond, false≢true}
 use mathlib.Core.Option.{Option, none}
-use mathlib.Core.List.{List, [], _∷_, map}
-use lib.ListN.{length, getD, set, take, drop}
+use mathlib.Core.List.{List, [], _∷_}
+use lib.ListN.{length, getD, take, drop}
 use lib.Dec.{eqb}
 use borrow.Author.Tests.{lt-ltb}
-use Rattle.bitmap.specs.Bits.{IsBitmap, noBitsFrom}
+use Rattle.bitmap.specs.Bits.{IsBitmap}
 use Rattle.bitmap.specs.Sizes.{slotCount, slotInRange, slotIndex}
 use Rattle.bitmap.specs.declared.Bitmap.{Bitmap}
 use Rattle.model_types.specs.declared.error.Error.{Error}
@@ -22,7 +22,7 @@ use Rattle.model.specs.First.{Cause, first, _⇒_}
 use Rattle.model_types.specs.Memory.{slotAt, reserveAt, idleSlot, isActive, withSam, withSlots, withReserve, withPending}
 use Rattle.model.specs.Reserves.{usedUp}
 use Rattle.model.specs.Stores.{Store, writes, changes, commitStores}
-use Rattle.model.specs.Commit.{committedSam, entriesOf, refreshed, committed}
+use Rattle.model.specs.Commit.{committedSam, entriesOf}
 use Rattle.model_types.specs.Pending.{ownerOf}
 use Rattle.model.specs.Pending.{storesDone, storesDue, oneMoreDone, newSam, finished}
 use Rattle.model.specs.Valid.{valid, pendingValid}
@@ -31,29 +31,22 @@ use Rattle.model.specs.Causes.{memoryInvalid, diskLengthWrong, diskMismatched, 
 use Rattle.model.specs.CauseLists.{storeCauses}
 use Rattle.model.specs.Calls.Storing.{storeError, advanced, nextStored}
 use Rattle.model.specs.Sizes.{diskWords}
-use Rattle.model_types.proofs.Laws.Shape.{Shaped, empty-is}
+use Rattle.model_types.proofs.Laws.Shape.{Shaped}
 use Rattle.model.proofs.Laws.First.{cause-holds}
-use Rattle.model.proofs.Laws.Valid.{ValidParts, valid-parts, slot-below, noBits-empty}
-use Rattle.model.proofs.Laws.Committed.{committed-bitmap, committed-below}
+use Rattle.model.proofs.Laws.Valid.{ValidParts, valid-parts}
 use Rattle.model.proofs.Laws.Pending.{CommitParts, commit-parts, precommitted-active, precommitted-below, unfinished}
 use Rattle.model.proofs.Laws.CommittedTam.{committed-tam, entries-tam}
 use Rattle.verdicts.specs.declared.verdict.Verdict.{Verdict}
 use Rattle.verdicts.specs.Verdicts.{verdict}
-use Rattle.store.specs.Refreshed.{refreshedSlot}
+use Rattle.ending.specs.Ended.{endedSlots}
+use Rattle.ending.proofs.Laws.Ended.{committed-parts}
 use Rattle.store.specs.Progress.{pendingAfter, endsCommit}
 use Rattle.store.specs.Step.{Fits, CanStore}
-use Rattle.store.proofs.Laws.Slots.{map-set}
-use Rattle.store.proofs.Laws.Refreshed.{refreshed-slot, refreshed-idle}
 use Rattle.store.proofs.Laws.PendingWork.{commit-due-is, in-recovery}
 
 -- the slot of a pending commit; another where there is none
 abbrev pub owner : Memory → Slot
 owner memory = getD (memory .slots) (ownerOf (memory .pending)) idleSlot
-
--- a function that agrees on each slot
-map-each : (f g : Slot → Slot) (slots : List Slot) → ((t : ℕ) → f (getD slots t idleSlot) ≡ g (getD slots t idleSlot)) → map f slots ≡ map g slots
-map-each f g [] h = refl
-map-each f g (slot ∷ slots) h = ap₂ _∷_ (h 0) (map-each f g slots (λ t. h (suc t)))
 
 module _ (memory : Memory) (shape : Shaped memory) (v : valid memory ≡ true) where
   parts : ValidParts memory
@@ -80,21 +73,6 @@ module _ (memory : Memory) (shape : Shaped memory) (v : valid memory ≡ true) w
 
     sam-is : committedSam memory s ≡ owner memory .tam
     sam-is = committed-tam memory s parts (shape .tam s) active ∙ ap (λ (slot : Slot). slot .tam) (sym owner-is)
-
-    -- the other slots: whole words make the bits that the model names
-    slots-are : map (refreshedSlot (memory .sam .words) (owner memory .tam .words)) (set (memory .slots) s idleSlot)
-        ≡ set (map (refreshed memory (committedSam memory s)) (memory .slots)) s idleSlot
-    slots-are =
-        map-set (refreshedSlot (memory .sam .words) (owner memory .tam .words)) (memory .slots) s idleSlot
-        ∙ ap₂ (λ (slots : List Slot) (slot : Slot). set slots s slot)
-        (map-each _ _ (memory .slots) (λ t. refreshed-is (slotAt memory t) (shape .tam t) (slot-below memory t parts)))
-        (refreshed-is idleSlot empty-is (noBits-empty (memory .blocks)) ∙ refreshed-idle memory (committedSam memory s))
-      where
-        refreshed-is : (slot : Slot) → IsBitmap (slot .tam .words) → noBitsFrom (memory .blocks) (slot .tam .words) ≡ true
-            → refreshedSlot (memory .sam .words) (owner memory .tam .words) slot ≡ refreshed memory (committedSam memory s) slot
-        refreshed-is slot is end =
-            ap (λ (sam : Bitmap). refreshedSlot (memory .sam .words) (sam .words) slot) (sym sam-is)
-            ∙ refreshed-slot memory (committedSam memory s) slot shape parts (committed-bitmap memory s) (committed-below memory s) is end
 
   -- ---- what is asked
 
@@ -149,29 +127,27 @@ module _ (memory : Memory) (shape : Shaped memory) (v : valid memory ≡ true) w
       (withReserve
       (withSlots
       (withSam memory (owner memory .tam))
-      (map (refreshedSlot (memory .sam .words) (owner memory .tam .words)) (set (memory .slots) (ownerOf (memory .pending)) idleSlot)))
+      (endedSlots (memory .sam .words) (owner memory .tam .words) (memory .slots) (ownerOf (memory .pending))))
       (ownerOf (memory .pending))
       (usedUp (reserveAt memory (ownerOf (memory .pending)))))
       (pendingAfter (memory .pending))
       ≡ advanced memory (memory .pending)
-  unfolding endsCommit pendingAfter advanced finished committed storesDone storesDue ownerOf slotIndex slotInRange
+  unfolding endsCommit pendingAfter advanced finished storesDone storesDue ownerOf slotIndex slotInRange
   ended-commit = go (memory .pending) refl
     where
-      new : List Slot → List Slot
-      new slots = map (refreshedSlot (memory .sam .words) (owner memory .tam .words)) slots
-
       go : (p : Pending) → memory .pending ≡ p → endsCommit p ≡ true
           → withPending
           (withReserve
-          (withSlots (withSam memory (owner memory .tam)) (new (set (memory .slots) (ownerOf p) idleSlot)))
+          (withSlots
+          (withSam memory (owner memory .tam))
+          (endedSlots (memory .sam .words) (owner memory .tam .words) (memory .slots) (ownerOf p)))
           (ownerOf p)
           (usedUp (reserveAt memory (ownerOf p))))
           (pendingAfter p)
           ≡ advanced memory p
       go Nothing e t = absurd (false≢true t)
       go (Commit s done due) e t =
-          rw (t, lt-ltb s slotCount (below s done due e))
-          (ap₂ (λ (sam : Bitmap) (slots : List Slot). withPending (withReserve (withSlots (withSam memory sam) slots) s (usedUp (reserveAt memory s))) Nothing) (sym (sam-is s done due e)) (slots-are s done due e))
+          rw (t, lt-ltb s slotCount (below s done due e), owner-is s done due e) (committed-parts memory s shape parts (active s done due e))
       go (Recovery done due) e t = absurd (false≢true t)
 
   pub no-commit-ended : endsCommit (memory .pending) ≡ false → withPending memory (pendingAfter (memory .pending)) ≡ advanced memory (memory .pending)

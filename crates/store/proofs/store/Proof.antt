@@ -3,7 +3,7 @@ use Prim.Native.Nat.{ℕ}
 use mathlib.Core.Path.{_≡_, sym, ap, ap₂, _∙_}
 use mathlib.Core.Logic.{⊎-elim}
 use mathlib.Core.Option.{Option}
-use mathlib.Core.List.{List, map}
+use mathlib.Core.List.{List}
 use lib.ListN.{length, getD, set}
 use denote.Ref.{now}
 use Rattle.bitmap.specs.declared.Bitmap.{Bitmap}
@@ -24,41 +24,72 @@ use Rattle.model.proofs.Laws.Accepted.{StoreAccepted, store-accepted}
 use Rattle.verdicts.specs.Verdicts.{verdict}
 use Rattle.verdicts.proofs.Laws.Verdicts.{error-of, accepted-none, accepted-leaves, refused-leaves, refused-stores}
 use Rattle.verdicts.proofs.Laws.Ready.{owner-read, own-tam}
-use Rattle.store.specs.Refreshed.{refreshedSlot}
-use Rattle.store.specs.Progress.{Unfinished, pendingAfter}
+use Rattle.ending.specs.Ended.{endedSlots}
+use Rattle.store.specs.Progress.{StoreLeft, pendingAfter}
 use Rattle.model.specs.CauseLists.{storeCauses}
 use Rattle.store.proofs.Laws.Store.{owner, fits, can-store, stored-is, ended-commit, no-commit-ended, store-verdict, accepted-stores}
 use borrow.Author.Needs.{needs}
 use Rattle.store.proofs.store.Statement.{statement}
 use Rattle.store.proofs.store.Tie as tie
 
--- ---- what is known on the way
+-- ---- the places, each from the next one behind it
+
+abbrev begun : tie.After-owner → tie.Start
+begun c = c .before .before .before .before .before .before
+
+abbrev owned : tie.After-valid → tie.After-owner
+owned c = c .before .before .before .before .before .before
+
+abbrev tested : tie.After-judge → tie.After-valid
+tested c = c .before .before .before .before .before .before
+
+abbrev judged : tie.After-is-accepted → tie.After-judge
+judged c = c .before .before
+
+abbrev found : tie.After-is-accepted → tie.After-owner
+found c = owned (tested (judged c))
+
+abbrev entered : tie.After-is-accepted → tie.Start
+entered c = begun (found c)
+
+abbrev accepted : tie.After-store-next-arg3 → tie.Then1
+accepted c = c .before .before .before .before .before
+
+abbrev stored : tie.After-slice-known2 → tie.Then1
+stored c = accepted (c .before .before .before)
+
+abbrev counted : tie.After-ends-commit → tie.Then1
+counted c = stored (c .before .before)
+
+abbrev ended : tie.After-refreshed-arg2 → tie.After-ends-commit
+ended c = c .before .before .before .before .before
+
+-- ---- what is known there
 
 shape-at : (c : tie.Start) → Shaped (c .args .memory)
 shape-at c = shaped (c .args .memory) _ (c .good .0)
 
--- where the causes are tested
-abbrev entered : tie.After-is-accepted → tie.Start
-entered c = c .before .before .before .before .before .before .before .before .before .before .before .before .before .before .before .before .before .before .before .before
-
 -- the slot that is read is the pending commit's
-owner-at : (c : tie.After-is-accepted) (d : Slot) → getD (entered c .args .memory .slots) (c .before .before .before .before .before .before .before .before .before .before .before .before .before .before .owner .result) d ≡ owner (entered c .args .memory)
-owner-at c d = owner-read (entered c .args .memory) d (shape-at (entered c)) (c .before .before .before .before .before .before .before .before .before .before .before .before .before .before .owner .ensures)
+owner-at : (c : tie.After-is-accepted) (d : Slot) → getD (entered c .args .memory .slots) (found c .owner .result) d ≡ owner (entered c .args .memory)
+owner-at c d = owner-read (entered c .args .memory) d (shape-at (entered c)) (found c .owner .ensures)
 
-verdict-is : (c : tie.After-is-accepted) → c .before .before .judge .result ≡ verdict (storeError (entered c .args .memory) (now (entered c .args .disk)))
+verdict-is : (c : tie.After-is-accepted) → judged c .judge .result ≡ verdict (storeError (entered c .args .memory) (now (entered c .args .disk)))
 verdict-is c =
     let a = entered c .args in
-    store-verdict (a .memory) (now (a .disk)) (shape-at (entered c)) (c .before .before .before .before .before .before .before .before .valid .ensures)
-    (c .before .before .judge .ensures
-    ∙ ap (λ (slot : Slot). verdict (first (storeCauses (c .before .before .before .before .before .before .before .before .valid .result) (a .memory .blocks) (a .memory .sam .words) (slot .tam .words) (now (a .disk)) (a .memory .pending))))
+    let sound = tested (judged c) .valid in
+    store-verdict (a .memory) (now (a .disk)) (shape-at (entered c)) (sound .ensures)
+    (judged c .judge .ensures
+    ∙ ap (λ (slot : Slot). verdict (first (storeCauses (sound .result) (a .memory .blocks) (a .memory .sam .words) (slot .tam .words) (now (a .disk)) (a .memory .pending))))
     (owner-at c _))
 
 -- where none holds
 told : (c : tie.Then1) → StoreAccepted (entered (c .before) .args .memory) (now (entered (c .before) .args .disk))
 told c = store-accepted _ _ (accepted-none _ (verdict-is (c .before)) (c .before .is-accepted .ensures) (c .if1 .taken))
 
-unfinished-at : (c : tie.Then1) → Unfinished (entered (c .before) .args .memory .pending)
-unfinished-at c = let b = entered (c .before) in fits (b .args .memory) (shape-at b) (told c .is-valid) .unfinished
+store-left : (c : tie.Then1) → StoreLeft (entered (c .before) .args .memory .pending)
+store-left c =
+    let b = entered (c .before) in
+    fits (b .args .memory) (shape-at b) (told c .is-valid) .unfinished (told c .pending)
 
 -- the memory with these parts put back
 abbrev put : Memory → Bitmap → List Slot → List Reserve → Pending → Memory
@@ -81,19 +112,20 @@ array-copy-out-owner c = search needs
 
 valid-requires : tie.Need-valid-requires
 valid-requires c κs =
-    let b = c .before .before .before .before .before .before .before .before .before .before .before in
-    let shape = shape-at b in
-    (shape .sam, (shape .com, owner-read (b .args .memory) _ shape (c .before .before .before .before .before .owner .ensures)))
+    let at = c .before .before .before .before .before in
+    let shape = shape-at (begun at) in
+    (shape .sam, (shape .com, owner-read (begun at .args .memory) _ shape (at .owner .ensures)))
 
 judge-requires : tie.Need-judge-requires
 judge-requires c κs =
-    let b = c .before .before .before .before .before .before .before .before .before .before .before .before .before .before .before .before .before in
-    let shape = shape-at b in
-    let index = c .before .before .before .before .before .before .before .before .before .before .before .owner .ensures in (
+    let sound = c .before .before .before .before .before in
+    let index = owned sound .owner .ensures in
+    let b = begun (owned sound) in
+    let shape = shape-at b in (
       shape .sam,
       (
         own-tam (b .args .memory) _ shape index,
-        λ e. rw (owner-read (b .args .memory) _ shape index) (fits (b .args .memory) shape (sym (c .before .before .before .before .before .valid .ensures) ∙ e)),
+        λ e. rw (owner-read (b .args .memory) _ shape index) (fits (b .args .memory) shape (sym (sound .valid .ensures) ∙ e)),
       ),
     )
 
@@ -105,95 +137,96 @@ is-accepted-requires c κs = search needs
 
 store-next-requires : tie.Need-store-next-requires
 store-next-requires c κs =
-    let then = c .before .before .before .before .before in
-    let b = entered (then .before) in
-    let t = told then in
-    rw (owner-at (then .before) _)
+    let at = accepted c .before in
+    let b = entered at in
+    let t = told (accepted c) in
+    rw (owner-at at _)
     (can-store (b .args .memory) (shape-at b) (t .is-valid) (now (b .args .disk)) (t .size) (t .matches)
-    (rw (sym (owner-at (then .before) idleSlot)) (own-tam (b .args .memory) _ (shape-at b) (then .before .before .before .before .before .before .before .before .before .before .before .before .before .before .before .owner .ensures))))
+    (rw (sym (owner-at at idleSlot)) (own-tam (b .args .memory) _ (shape-at b) (found at .owner .ensures))))
 
 still-due-requires : tie.Need-still-due-requires
-still-due-requires c κs = unfinished-at (c .before .before .before .before .before .before .before .before)
+still-due-requires c κs = store-left (stored c)
 
 ends-commit-requires : tie.Need-ends-commit-requires
-ends-commit-requires c κs = unfinished-at (c .before .before .before .before .before .before .before .before .before)
+ends-commit-requires c κs = store-left (stored (c .before))
 
 refreshed-requires : tie.Need-refreshed-requires
 refreshed-requires c κs =
-    let tested = c .before .before .before .before .before .before .before .before .before .before .before .before .before .before .before .before in
-    let b = entered tested in
-    let index = tested .before .before .before .before .before .before .before .before .before .before .before .before .before .before .owner .ensures in
+    let at = counted (ended c) .before in
+    let b = entered at in
+    let index = found at .owner .ensures in
     (index .below, (shape-at b .sam, own-tam (b .args .memory) _ (shape-at b) index))
 
 use-up-requires : tie.Need-use-up-requires
-use-up-requires c κs =
-    let tested = c .before .before .before .before .before .before .before .before .before .before .before .before .before .before .before .before .before .before in
-    tested .before .before .before .before .before .before .before .before .before .before .before .before .before .before .owner .ensures .below
+use-up-requires c κs = found (counted (ended (c .before .before)) .before) .owner .ensures .below
 
 pending-after-requires : tie.Need-pending-after-requires
-pending-after-requires c κs = unfinished-at (c .before .before .before .before .before .before .before .before .before .before .before)
+pending-after-requires c κs = store-left (counted (c .before))
 
 with-pending-requires : tie.Need-with-pending-requires
 with-pending-requires c κs = search needs
 
 same-length : tie.Need-same-length
 same-length c =
-    ⊎-elim (λ w. ap length (w .13) ∙ w .6 .kept .1 .1 .1 .0) (λ w. ap length (w .1)) (c .before .if1 .came)
+    ⊎-elim
+    (λ (_, _, _, _, _, _, made, _, _, _, _, _, _, disk-is, _, _, _, _, _).
+    let (_, (_, (_, (size, _)))) = made .kept in
+    ap length disk-is ∙ size)
+    (λ (_, disk-is, _, _, _, _, _). ap length disk-is)
+    (c .before .if1 .came)
 
 returns : tie.Need-returns
 unfolding storeAnswer storeMemory storeDisk
 returns c =
-    let tested = c .before .before in
-    let b = entered tested in
-    let a = b .args in
-    let shape = shape-at b in
-    let index = tested .before .before .before .before .before .before .before .before .before .before .before .before .before .before .owner .ensures in
+    let at = c .before .before in
+    let a = entered at .args in
+    let shape = shape-at (entered at) in
+    let index = found at .owner .ensures in
     let error = storeError (a .memory) (now (a .disk)) in
     let new = advanced (a .memory) (a .memory .pending) in
     let disk = nextStored (a .memory) (now (a .disk)) in
-    let is = verdict-is tested in
-    let test = tested .is-accepted .ensures in
+    let is = verdict-is at in
+    let test = at .is-accepted .ensures in
     let left = c .before .if1 in
+    let next = pendingAfter (a .memory .pending) in
     ⊎-elim
-    (λ w.
-    let then : tie.Then1 = record { before = tested; if1 = w .0 } in
-    let t = told then in
-    let none = accepted-none error is test (w .0 .taken) in
-    let flag = sym (w .10 .ensures) in (
-      w .18 ∙ ap StoresAnswer.Due (w .9 .ensures) ∙ accepted-stores error _ none,
+    (λ (taken, _, _, _, _, _, made, _, _, due-is, ends, branch, after, disk-is, sam-is, slots-are, reserves-are, pending-is, answer-is).
+    let v = told (record { before = at; if1 = taken }) .is-valid in
+    let flag = sym (ends .ensures) in (
+      answer-is ∙ ap StoresAnswer.Due (due-is .ensures) ∙ accepted-stores error _ (accepted-none error is test (taken .taken)),
       (
         c .with-pending .ensures
-            ∙ ap (put (a .memory) (left .sam) (left .slots) (left .reserves)) (w .17 ∙ w .12 .ensures)
-            ∙ same-parts (a .memory) (pendingAfter (a .memory .pending)) (w .14) (w .15) (w .16)
+            ∙ ap (put (a .memory) (left .sam) (left .slots) (left .reserves)) (pending-is ∙ after .ensures)
+            ∙ same-parts (a .memory) next sam-is slots-are reserves-are
             ∙ ⊎-elim
-            (λ x.
-            same-parts (a .memory) (pendingAfter (a .memory .pending))
-            (x .8 ∙ ap (λ (slot : Slot). slot .tam) (owner-at tested _))
-            (x .9
-            ∙ x .5 .ensures
-            ∙ ap₂ (λ (slot : Slot) (i : ℕ). map (refreshedSlot (a .memory .sam .words) (slot .tam .words)) (set (a .memory .slots) i idleSlot)) (owner-at tested _) (index .is))
-            (x .10 ∙ x .7 .ensures ∙ ap (λ (i : ℕ). set (a .memory .reserves) i (usedUp (getD (a .memory .reserves) i noReserve))) (index .is))
-            ∙ ended-commit (a .memory) shape (t .is-valid) (flag ∙ x .0 .taken))
-            (λ x.
-            same-parts (a .memory) (pendingAfter (a .memory .pending)) (x .1) (x .2) (x .3)
-            ∙ no-commit-ended (a .memory) shape (t .is-valid) (flag ∙ x .0 .left))
-            (w .11 .came)
-            ∙ accepted-leaves error new (a .memory) is test (w .0 .taken),
-        w .13
-            ∙ w .6 .ensures
-            ∙ ap (λ (slot : Slot). nextDisk (a .memory .sam .words) (slot .tam .words) (now (a .disk)) (a .memory .pending)) (owner-at tested _)
-            ∙ stored-is (a .memory) shape (t .is-valid) (now (a .disk))
-            ∙ accepted-leaves error disk (now (a .disk)) is test (w .0 .taken),
+            (λ (last, _, _, _, _, refreshed, _, used, sam-is, slots-are, reserves-are).
+            same-parts (a .memory) next
+            (sam-is ∙ ap (λ (slot : Slot). slot .tam) (owner-at at _))
+            (slots-are
+            ∙ refreshed .ensures
+            ∙ ap₂ (λ (slot : Slot) (i : ℕ). endedSlots (a .memory .sam .words) (slot .tam .words) (a .memory .slots) i) (owner-at at _) (index .is))
+            (reserves-are ∙ used .ensures ∙ ap (λ (i : ℕ). set (a .memory .reserves) i (usedUp (getD (a .memory .reserves) i noReserve))) (index .is))
+            ∙ ended-commit (a .memory) shape v (flag ∙ last .taken))
+            (λ (goes-on, sam-is, slots-are, reserves-are).
+            same-parts (a .memory) next sam-is slots-are reserves-are
+            ∙ no-commit-ended (a .memory) shape v (flag ∙ goes-on .left))
+            (branch .came)
+            ∙ accepted-leaves error new (a .memory) is test (taken .taken),
+        disk-is
+            ∙ made .ensures
+            ∙ ap (λ (slot : Slot). nextDisk (a .memory .sam .words) (slot .tam .words) (now (a .disk)) (a .memory .pending)) (owner-at at _)
+            ∙ stored-is (a .memory) shape v (now (a .disk))
+            ∙ accepted-leaves error disk (now (a .disk)) is test (taken .taken),
       ),
     ))
-    (λ w. (
-      w .6 ∙ tested .before .stores .ensures ∙ ap (λ (e : Option Error). due e 0) (error-of error is) ∙ refused-stores error 0 _ is test (w .0 .left),
+    (λ (refused, disk-is, sam-is, slots-are, reserves-are, pending-is, answer-is). (
+      answer-is ∙ at .before .stores .ensures ∙ ap (λ (e : Option Error). due e 0) (error-of error is) ∙ refused-stores error 0 _ is test (refused .left),
       (
         c .with-pending .ensures
-            ∙ ap (put (a .memory) (left .sam) (left .slots) (left .reserves)) (w .5)
-            ∙ same-parts (a .memory) (a .memory .pending) (w .2) (w .3) (w .4)
-            ∙ refused-leaves error new (a .memory) is test (w .0 .left),
-        w .1 ∙ refused-leaves error disk (now (a .disk)) is test (w .0 .left),
+            ∙ ap (put (a .memory) (left .sam) (left .slots) (left .reserves)) pending-is
+            ∙ same-parts (a .memory) (a .memory .pending) sam-is slots-are reserves-are
+            ∙ refused-leaves error new (a .memory) is test (refused .left),
+        disk-is ∙ refused-leaves error disk (now (a .disk)) is test (refused .left),
       ),
     ))
     (c .before .if1 .came)

@@ -94,21 +94,21 @@ loop-again c =
     let k = at .loop .k in
     let from = changedFrom (now (a .disk)) (a .done) (a .checkpointed) old new (k + 1) in
     ⊎-elim
-    (λ w. (
+    (λ (changes, tested, passed, i-is). (
       omega (arith, there),
-      omega (arith, at .loop .inv .1, w .3, ap length (word-changes old new k (omega arith) (omega arith) there (w .0 .taken))),
+      omega (arith, at .loop .inv .1, i-is, ap length (word-changes old new k (omega arith) (omega arith) there (changes .taken))),
       at .loop .inv .2
           ∙ changed-test (now (a .disk)) (a .done) (a .checkpointed) old new k (at .loop .i) (omega arith) (omega arith) there
-          (w .0 .taken) (w .1 .ensures)
-          ∙ and-left _ (not-false (w .1 .result) (w .2 .left))
-          ∙ ap from (sym (w .3)),
+          (changes .taken) (tested .ensures)
+          ∙ and-left _ (not-false (tested .result) (passed .left))
+          ∙ ap from (sym i-is),
     ))
-    (λ w. (
+    (λ (stays, i-is). (
       omega (arith, there),
-      omega (arith, at .loop .inv .1, w .1, ap length (word-stays old new k (omega arith) (omega arith) there (w .0 .left))),
+      omega (arith, at .loop .inv .1, i-is, ap length (word-stays old new k (omega arith) (omega arith) there (stays .left))),
       at .loop .inv .2
-          ∙ changed-pass (now (a .disk)) (a .done) (a .checkpointed) old new k (at .loop .i) (omega arith) (omega arith) there (w .0 .left)
-          ∙ ap from (sym (w .1)),
+          ∙ changed-pass (now (a .disk)) (a .done) (a .checkpointed) old new k (at .loop .i) (omega arith) (omega arith) there (stays .left)
+          ∙ ap from (sym i-is),
     ))
     (c .if1 .came)
 

@@ -72,17 +72,17 @@ loop-again c =
     let there = turn .loop-test .taken in
     let first : ℕ → List Store = λ n. take 1 (drop n (changesAt old new (k + 1))) in
     ⊎-elim
-    (λ w.
-    let split = word-changes old new k (omega arith) (omega arith) there (w .0 .taken) in (
+    (λ (changes, behind, left-is).
+    let split = word-changes old new k (omega arith) (omega arith) there (changes .taken) in (
       omega arith,
-      omega (arith, at .loop .inv .1, w .1 .left, w .2, ap length split),
-      at .loop .inv .2 ∙ ap (take 1) (behind-first (at .loop .left) split (w .1 .left)) ∙ ap first (sym (w .2)),
+      omega (arith, at .loop .inv .1, behind .left, left-is, ap length split),
+      at .loop .inv .2 ∙ ap (take 1) (behind-first (at .loop .left) split (behind .left)) ∙ ap first (sym left-is),
     ))
-    (λ w.
-    let passed = word-stays old new k (omega arith) (omega arith) there (w .0 .left) in (
+    (λ (stays, left-is).
+    let passed = word-stays old new k (omega arith) (omega arith) there (stays .left) in (
       omega arith,
-      omega (arith, at .loop .inv .1, w .1, ap length passed),
-      at .loop .inv .2 ∙ ap (λ (es : List Store). take 1 (drop (at .loop .left) es)) passed ∙ ap first (sym (w .1)),
+      omega (arith, at .loop .inv .1, left-is, ap length passed),
+      at .loop .inv .2 ∙ ap (λ (es : List Store). take 1 (drop (at .loop .left) es)) passed ∙ ap first (sym left-is),
     ))
     (c .if1 .came)
 

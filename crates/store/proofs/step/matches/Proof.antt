@@ -18,19 +18,17 @@ enum-known-pending c = search needs
 
 commit-matches-requires : tie.Need-commit-matches-requires
 commit-matches-requires c κs =
-    let p = c .before .before .before .before .pre in
-    let fits = p .1 .1 .1 in
+    let (size, (is-sam, (is-new, fits))) = c .before .before .before .before .pre in
     let is = c .before .pending .given .1 in
-    (p .0, (p .1 .0, (p .1 .1 .0, (fits .due-is _ _ _ is, commit-less _ _ _ is (fits .unfinished)))))
+    (size, (is-sam, (is-new, (fits .due-is _ _ _ is, commit-less _ _ _ is (fits .unfinished)))))
 
 enum-known-pending-2 : tie.Need-enum-known-pending-2
 enum-known-pending-2 c = search needs
 
 recovery-matches-requires : tie.Need-recovery-matches-requires
 recovery-matches-requires c κs =
-    let p = c .before .before .before .before .pre in
-    let fits = p .1 .1 .1 in
-    (p .0, (p .1 .0, (fits .few-blocks, recovery-less _ _ (c .before .pending2 .given .1) (fits .unfinished))))
+    let (size, (is-sam, (_, fits))) = c .before .before .before .before .pre in
+    (size, (is-sam, (fits .few-blocks, recovery-less _ _ (c .before .pending2 .given .1) (fits .unfinished))))
 
 returns : tie.Need-returns
 unfolding partsMatch storesMatch storesOf

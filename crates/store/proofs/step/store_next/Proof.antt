@@ -42,8 +42,10 @@ same-length c = search needs
 returns-2 : tie.Need-returns-2
 unfolding nextDisk storesOf storesDone
 returns-2 c =
-    let a = c .before .before .before .before .before .before .before .before .args in
-    c .before .before .store-commit .ensures ∙ sym (ap (nextDisk (now (a .sam)) (now (a .new)) (now (a .disk))) (c .before .before .before .before .before .pending .given .1))
+    let made = c .before .before in
+    let arm = made .before .before .before in
+    let a = arm .before .before .before .args in
+    made .store-commit .ensures ∙ sym (ap (nextDisk (now (a .sam)) (now (a .new)) (now (a .disk))) (arm .pending .given .1))
 
 same-length-2 : tie.Need-same-length-2
 same-length-2 c = search needs
@@ -51,8 +53,10 @@ same-length-2 c = search needs
 returns-3 : tie.Need-returns-3
 unfolding nextDisk storesOf storesDone
 returns-3 c =
-    let a = c .before .before .before .before .before .before .before .before .args in
-    c .before .before .store-recovery .ensures ∙ sym (ap (nextDisk (now (a .sam)) (now (a .new)) (now (a .disk))) (c .before .before .before .before .before .pending2 .given .1))
+    let made = c .before .before in
+    let arm = made .before .before .before in
+    let a = arm .before .before .before .args in
+    made .store-recovery .ensures ∙ sym (ap (nextDisk (now (a .sam)) (now (a .new)) (now (a .disk))) (arm .pending2 .given .1))
 
 pub store-next-spec : {M : Type 1} → statement M
 store-next-spec =

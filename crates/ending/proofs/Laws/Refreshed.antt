@@ -13,7 +13,7 @@ use Rattle.model_types.specs.Memory.{bitmap, withTam, idleSlot, isActive}
 use Rattle.model.specs.Commit.{refreshed}
 use Rattle.model_types.proofs.Laws.Shape.{Shaped}
 use Rattle.model.proofs.Laws.Valid.{ValidParts}
-use Rattle.store.specs.Refreshed.{refreshedSlot}
+use Rattle.ending.specs.Ended.{refreshedSlot}
 
 -- an idle slot stays
 pub idle-stays : (old new : List ℕ) (slot : Slot) → isActive (slot .state) ≡ false → slot ≡ refreshedSlot old new slot

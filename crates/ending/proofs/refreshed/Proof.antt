@@ -11,11 +11,11 @@ use Rattle.model_types.specs.declared.memory.Slot.{Slot}
 use Rattle.model_types.specs.Memory.{idleSlot, isActive}
 use Rattle.model_types.proofs.Laws.Shape.{ShapedSlots, slots-shaped, slots-read}
 use borrow.Author.Needs.{needs}
-use Rattle.store.specs.Refreshed.{refreshedSlot}
-use Rattle.store.proofs.Laws.Slots.{mapFirst, mapFirst-at, mapFirst-step, mapFirst-stays, mapFirst-all, idled-shaped}
-use Rattle.store.proofs.Laws.Refreshed.{idle-stays, active-refreshed}
-use Rattle.store.proofs.refreshed.refreshed.Statement.{statement}
-use Rattle.store.proofs.refreshed.refreshed.Tie as tie
+use Rattle.ending.specs.Ended.{refreshedSlot}
+use Rattle.ending.proofs.Laws.Slots.{mapFirst, mapFirst-at, mapFirst-step, mapFirst-stays, mapFirst-all, idled-shaped}
+use Rattle.ending.proofs.Laws.Refreshed.{idle-stays, active-refreshed}
+use Rattle.ending.proofs.refreshed.Statement.{statement}
+use Rattle.ending.proofs.refreshed.Tie as tie
 
 abbrev Inv-loop : tie.InvT-loop
 Inv-loop at old new slots₀ t₀ slots t = (t ≤ 8) × (slots ≡ mapFirst (refreshedSlot old new) t slots₀)
@@ -23,19 +23,28 @@ Inv-loop at old new slots₀ t₀ slots t = (t ≤ 8) × (slots ≡ mapFirst (re
 abbrev μ-loop : tie.MeasureT-loop
 μ-loop at old new slots₀ t₀ slots t = 8 - t
 
--- ---- what is known on the way
+-- ---- the places, each from the next one behind it
+
+abbrev entered : tie.After-idle Inv-loop μ-loop → tie.Start Inv-loop μ-loop
+entered c = c .before
+
+abbrev idled : tie.In-loop Inv-loop μ-loop → tie.After-idle Inv-loop μ-loop
+idled c = c .before .before
+
+-- ---- what is known there
 
 -- the slots before the loop: one is made idle
-idled-at : (c : tie.After-idle Inv-loop μ-loop) → set (c .before .args .t1) (c .before .args .at) (c .idle .result) ≡ set (c .before .args .t1) (c .before .args .at) idleSlot
-idled-at c = ap (set (c .before .args .t1) (c .before .args .at)) (c .idle .ensures)
+abbrev first : tie.After-idle Inv-loop μ-loop → List Slot
+first c = let a = entered c .args in set (a .t1) (a .at) (c .idle .result)
 
-shape-at : (c : tie.After-idle Inv-loop μ-loop) → ShapedSlots (set (c .before .args .t1) (c .before .args .at) (c .idle .result))
-shape-at c = rw (idled-at c) (idled-shaped (c .before .args .t1) (c .before .args .at) (slots-shaped (c .before .args .t1) _ (c .before .good .0)))
+idled-at : (c : tie.After-idle Inv-loop μ-loop) → first c ≡ set (entered c .args .t1) (entered c .args .at) idleSlot
+idled-at c = ap (set (entered c .args .t1) (entered c .args .at)) (c .idle .ensures)
+
+shape-at : (c : tie.After-idle Inv-loop μ-loop) → ShapedSlots (first c)
+shape-at c = let a = entered c .args in rw (idled-at c) (idled-shaped (a .t1) (a .at) (slots-shaped (a .t1) _ (entered c .good .0)))
 
 -- the slot that a turn reads is still as before the loop
-read-at : (c : tie.In-loop Inv-loop μ-loop) (d : Slot)
-    → getD (c .before .loop .slots) (c .before .loop .t) d
-    ≡ getD (set (c .before .before .before .args .t1) (c .before .before .before .args .at) (c .before .before .idle .result)) (c .before .loop .t) d
+read-at : (c : tie.In-loop Inv-loop μ-loop) (d : Slot) → getD (c .before .loop .slots) (c .before .loop .t) d ≡ getD (first (idled c)) (c .before .loop .t) d
 read-at c d =
     ap (λ (slots : List Slot). getD slots (c .before .loop .t) d) (c .before .loop .inv .1) ∙ mapFirst-at _ (c .before .loop .t) _ d
 
@@ -66,9 +75,9 @@ is-active-requires c κs = search needs
 refresh-requires : tie.Need-refresh-requires Inv-loop μ-loop
 refresh-requires c κs =
     let turn = c .before .before .before .before in
-    let b = turn .before .before .before in (
-      rw (read-at turn _, slots-read _ _ (turn .before .loop .t) (shape-at (turn .before .before)) (turn .loop-test .taken)) (shape-at (turn .before .before) .tam (turn .before .loop .t)),
-      (b .pre .1 .0, b .pre .1 .1),
+    let (_, maps) = entered (idled turn) .pre in (
+      rw (read-at turn _, slots-read _ _ (turn .before .loop .t) (shape-at (idled turn)) (turn .loop-test .taken)) (shape-at (idled turn) .tam (turn .before .loop .t)),
+      maps,
     )
 
 mul-slots-2 : tie.Need-mul-slots-2 Inv-loop μ-loop
@@ -87,26 +96,25 @@ loop-again : tie.Need-loop-again Inv-loop μ-loop
 loop-again c =
     let turn = c .before .before .before in
     let l = turn .before .loop in
-    let i = turn .before .before in
-    let a = i .before .args in
+    let before = idled turn in
+    let a = entered before .args in
     let f = refreshedSlot (now (a .old)) (now (a .new)) in
-    let first = set (a .t1) (a .at) (i .idle .result) in
-    let there : l .t < length first = omega (arith, shape-at i .eight, turn .loop-test .taken) in
+    let there : l .t < length (first before) = omega (arith, shape-at before .eight, turn .loop-test .taken) in
     let flag = sym (c .before .is-active .ensures) in
-    let next = ap (λ (n : ℕ). mapFirst f n first) (sym (add-one (l .t))) in (
+    let next = ap (λ (n : ℕ). mapFirst f n (first before)) (sym (add-one (l .t))) in (
       search needs,
       ⊎-elim
-          (λ w.
-          w .3
+          (λ (active, _, refresh, slots-are).
+          slots-are
           ∙ ap₂ (λ (slots : List Slot) (slot : Slot). set slots (l .t) slot) (l .inv .1)
-          (active-refreshed (now (a .old)) (now (a .new)) (getD (l .slots) (l .t) _) _ (flag ∙ w .0 .taken) (w .2 .ensures) ∙ ap f (read-at turn _))
-          ∙ mapFirst-step f (l .t) first _ there
+          (active-refreshed (now (a .old)) (now (a .new)) (getD (l .slots) (l .t) _) _ (flag ∙ active .taken) (refresh .ensures) ∙ ap f (read-at turn _))
+          ∙ mapFirst-step f (l .t) (first before) _ there
           ∙ next)
-          (λ w.
-          w .1
+          (λ (idle, slots-are).
+          slots-are
           ∙ l .inv .1
-          ∙ mapFirst-stays f (l .t) first _ there
-          (sym (idle-stays (now (a .old)) (now (a .new)) _ (ap (λ (slot : Slot). isActive (slot .state)) (sym (read-at turn _)) ∙ flag ∙ w .0 .left)))
+          ∙ mapFirst-stays f (l .t) (first before) _ there
+          (sym (idle-stays (now (a .old)) (now (a .new)) _ (ap (λ (slot : Slot). isActive (slot .state)) (sym (read-at turn _)) ∙ flag ∙ idle .left)))
           ∙ next)
           (c .if1 .came),
     )
@@ -114,10 +122,11 @@ loop-again c =
 returns : tie.Need-returns Inv-loop μ-loop
 returns c =
     let l = c .before in
-    let i = l .before in
+    let before = l .before in
+    let a = entered before .args in
     l .loop .inv .1
-    ∙ mapFirst-all _ (l .loop .t) _ (omega (arith, shape-at i .eight, c .loop-test .left))
-    ∙ ap (map (refreshedSlot (now (i .before .args .old)) (now (i .before .args .new)))) (idled-at i)
+    ∙ mapFirst-all _ (l .loop .t) _ (omega (arith, shape-at before .eight, c .loop-test .left))
+    ∙ ap (map (refreshedSlot (now (a .old)) (now (a .new)))) (idled-at before)
 
 pub refreshed-spec : {M : Type 1} → statement M
 refreshed-spec =

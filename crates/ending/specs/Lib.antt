@@ -1,0 +1,2 @@
+-- What a commit's end makes of the slots.
+pub mod Ended
