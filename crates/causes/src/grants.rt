@@ -9,7 +9,13 @@ use reserves::sums::leaves_fewer;
 use verdicts::verdict::Verdict;
 
 // 15, 16, 17 and 24: allocate.
-pub fn grant_causes(earlier: Verdict, available: u32, count: u32, list: &[u32], kept: u64) -> Verdict
+pub fn grant_causes(
+    earlier: Verdict,
+    available: u32,
+    count: u32,
+    list: &[u32],
+    kept: u64,
+) -> Verdict
     ensures { λ r. ⌜ r ≡ thenCauses earlier (grantCauses available count (now (list .entry)) kept) ⌝ }
 {
     let counted = earlier.unless(!Bitmap::count_in_range(count), Error::CountRange);

@@ -22,8 +22,8 @@ use Rattle.model.specs.Calls.Storing.{storeError, advanced, nextStored, storeAn
 use Rattle.model_types.proofs.Laws.Shape.{Shaped, shaped}
 use Rattle.model.proofs.Laws.Accepted.{StoreAccepted, store-accepted}
 use Rattle.verdicts.specs.Verdicts.{verdict}
-use Rattle.verdicts.proofs.Laws.Verdicts.{error-of, accepted-none, accepted-leaves, refused-leaves, refused-stores}
-use Rattle.verdicts.proofs.Laws.Ready.{owner-read, own-tam}
+use Rattle.verdicts.proofs.Laws.Verdicts.{refused-stores}
+use Rattle.verdicts.proofs.Laws.Frame.{Judged, owner-read, tam-read, none-held, error-is, leaves-new, leaves-old}
 use Rattle.ending.specs.Ended.{endedSlots}
 use Rattle.store.specs.Progress.{StoreLeft, pendingAfter}
 use Rattle.model.specs.CauseLists.{storeCauses}
@@ -73,18 +73,23 @@ shape-at c = shaped (c .args .memory) _ (c .good .0)
 owner-at : (c : tie.After-is-accepted) (d : Slot) → getD (entered c .args .memory .slots) (found c .owner .result) d ≡ owner (entered c .args .memory)
 owner-at c d = owner-read (entered c .args .memory) d (shape-at (entered c)) (found c .owner .ensures)
 
-verdict-is : (c : tie.After-is-accepted) → judged c .judge .result ≡ verdict (storeError (entered c .args .memory) (now (entered c .args .disk)))
-verdict-is c =
+verdict-at : (c : tie.After-is-accepted)
+    → let a = entered c .args in Judged (storeError (a .memory) (now (a .disk))) (judged c .judge .result) (c .is-accepted .result)
+verdict-at c =
     let a = entered c .args in
-    let sound = tested (judged c) .valid in
-    store-verdict (a .memory) (now (a .disk)) (shape-at (entered c)) (sound .ensures)
-    (judged c .judge .ensures
-    ∙ ap (λ (slot : Slot). verdict (first (storeCauses (sound .result) (a .memory .blocks) (a .memory .sam .words) (slot .tam .words) (now (a .disk)) (a .memory .pending))))
-    (owner-at c _))
+    let checked = tested (judged c) .valid in
+    record {
+      is =
+          store-verdict (a .memory) (now (a .disk)) (shape-at (entered c)) (checked .ensures .sound)
+          (judged c .judge .ensures
+          ∙ ap (λ (slot : Slot). verdict (first (storeCauses (checked .result .sound) (a .memory .blocks) (a .memory .sam .words) (slot .tam .words) (now (a .disk)) (a .memory .pending))))
+          (owner-at c _));
+      test = c .is-accepted .ensures;
+    }
 
 -- where none holds
 told : (c : tie.Then1) → StoreAccepted (entered (c .before) .args .memory) (now (entered (c .before) .args .disk))
-told c = store-accepted _ _ (accepted-none _ (verdict-is (c .before)) (c .before .is-accepted .ensures) (c .if1 .taken))
+told c = store-accepted _ _ (none-held (verdict-at (c .before)) (c .if1 .taken))
 
 store-left : (c : tie.Then1) → StoreLeft (entered (c .before) .args .memory .pending)
 store-left c =
@@ -124,8 +129,8 @@ judge-requires c κs =
     let shape = shape-at b in (
       shape .sam,
       (
-        own-tam (b .args .memory) _ shape index,
-        λ e. rw (owner-read (b .args .memory) _ shape index) (fits (b .args .memory) shape (sym (sound .valid .ensures) ∙ e)),
+        tam-read (b .args .memory) _ shape index,
+        λ e. rw (owner-read (b .args .memory) _ shape index) (fits (b .args .memory) shape (sym (sound .valid .ensures .sound) ∙ e)),
       ),
     )
 
@@ -142,7 +147,7 @@ store-next-requires c κs =
     let t = told (accepted c) in
     rw (owner-at at _)
     (can-store (b .args .memory) (shape-at b) (t .is-valid) (now (b .args .disk)) (t .size) (t .matches)
-    (rw (sym (owner-at at idleSlot)) (own-tam (b .args .memory) _ (shape-at b) (found at .owner .ensures))))
+    (rw (sym (owner-at at idleSlot)) (tam-read (b .args .memory) _ (shape-at b) (found at .owner .ensures))))
 
 still-due-requires : tie.Need-still-due-requires
 still-due-requires c κs = store-left (stored c)
@@ -155,7 +160,7 @@ refreshed-requires c κs =
     let at = counted (ended c) .before in
     let b = entered at in
     let index = found at .owner .ensures in
-    (index .below, (shape-at b .sam, own-tam (b .args .memory) _ (shape-at b) index))
+    (index .below, (shape-at b .sam, tam-read (b .args .memory) _ (shape-at b) index))
 
 use-up-requires : tie.Need-use-up-requires
 use-up-requires c κs = found (counted (ended (c .before .before)) .before) .owner .ensures .below
@@ -185,15 +190,14 @@ returns c =
     let error = storeError (a .memory) (now (a .disk)) in
     let new = advanced (a .memory) (a .memory .pending) in
     let disk = nextStored (a .memory) (now (a .disk)) in
-    let is = verdict-is at in
-    let test = at .is-accepted .ensures in
+    let judged = verdict-at at in
     let left = c .before .if1 in
     let next = pendingAfter (a .memory .pending) in
     ⊎-elim
     (λ (taken, _, _, _, _, _, made, _, _, due-is, ends, branch, after, disk-is, sam-is, slots-are, reserves-are, pending-is, answer-is).
     let v = told (record { before = at; if1 = taken }) .is-valid in
     let flag = sym (ends .ensures) in (
-      answer-is ∙ ap StoresAnswer.Due (due-is .ensures) ∙ accepted-stores error _ (accepted-none error is test (taken .taken)),
+      answer-is ∙ ap StoresAnswer.Due (due-is .ensures) ∙ accepted-stores error _ (none-held judged (taken .taken)),
       (
         c .with-pending .ensures
             ∙ ap (put (a .memory) (left .sam) (left .slots) (left .reserves)) (pending-is ∙ after .ensures)
@@ -211,22 +215,22 @@ returns c =
             same-parts (a .memory) next sam-is slots-are reserves-are
             ∙ no-commit-ended (a .memory) shape v (flag ∙ goes-on .left))
             (branch .came)
-            ∙ accepted-leaves error new (a .memory) is test (taken .taken),
+            ∙ leaves-new judged new (a .memory) (taken .taken),
         disk-is
             ∙ made .ensures
             ∙ ap (λ (slot : Slot). nextDisk (a .memory .sam .words) (slot .tam .words) (now (a .disk)) (a .memory .pending)) (owner-at at _)
             ∙ stored-is (a .memory) shape v (now (a .disk))
-            ∙ accepted-leaves error disk (now (a .disk)) is test (taken .taken),
+            ∙ leaves-new judged disk (now (a .disk)) (taken .taken),
       ),
     ))
     (λ (refused, disk-is, sam-is, slots-are, reserves-are, pending-is, answer-is). (
-      answer-is ∙ at .before .stores .ensures ∙ ap (λ (e : Option Error). due e 0) (error-of error is) ∙ refused-stores error 0 _ is test (refused .left),
+      answer-is ∙ at .before .stores .ensures ∙ ap (λ (e : Option Error). due e 0) (error-is judged) ∙ refused-stores error 0 _ (judged .is) (judged .test) (refused .left),
       (
         c .with-pending .ensures
             ∙ ap (put (a .memory) (left .sam) (left .slots) (left .reserves)) pending-is
             ∙ same-parts (a .memory) (a .memory .pending) sam-is slots-are reserves-are
-            ∙ refused-leaves error new (a .memory) is test (refused .left),
-        disk-is ∙ refused-leaves error disk (now (a .disk)) is test (refused .left),
+            ∙ leaves-old judged new (a .memory) (refused .left),
+        disk-is ∙ leaves-old judged disk (now (a .disk)) (refused .left),
       ),
     ))
     (c .before .if1 .came)

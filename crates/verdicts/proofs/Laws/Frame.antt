@@ -45,6 +45,10 @@ pub owner-read : {at : ℕ} (memory : Memory) (d : Slot) → Shaped memory → I
     → getD (memory .slots) at d ≡ getD (memory .slots) (ownerOf (memory .pending)) idleSlot
 owner-read memory d shape index = slot-read memory d _ shape (index .below) ∙ ap (slotAt memory) (index .is)
 
+-- the bitmap of a slot is one, whichever slot it is
+pub tam-read : {at wanted : ℕ} (memory : Memory) (d : Slot) → Shaped memory → IsSlot wanted at → IsBitmap (getD (memory .slots) at d .tam .words)
+tam-read memory d shape index = rw (slot-read memory d _ shape (index .below)) (shape .tam _)
+
 -- where there is a slot of this number, it is this one
 pub index-is : {at : ℕ} (s : ℕ) → IsSlot (slotIndex s) at → s < slotCount → at ≡ s
 unfolding slotInRange slotIndex
@@ -57,9 +61,8 @@ module _ {at : ℕ} {sound : Bool} {memory : Memory} {s : ℕ} (frame : Frame me
   pub own-slot : (d : Slot) → s < slotCount → getD (memory .slots) at d ≡ slotAt memory s
   own-slot d below = rw (at-is below) (slot-read memory d s (frame .shape) below)
 
-  -- its bitmap is one, whichever slot it is
   pub own-tam : (d : Slot) → IsBitmap (getD (memory .slots) at d .tam .words)
-  own-tam d = rw (slot-read memory d _ (frame .shape) (frame .index .below)) (frame .shape .tam _)
+  own-tam d = tam-read memory d (frame .shape) (frame .index)
 
   own-state : (d : Slot) → slotInRange s ≡ true → getD (memory .slots) at d .state ≡ slotAt memory s .state
   unfolding slotInRange
