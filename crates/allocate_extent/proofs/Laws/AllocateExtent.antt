@@ -9,7 +9,6 @@ use mathlib.Core.List.{List, [], _∷_, _++_}
 use lib.ListN.{length, getD}
 use lib.Dec.{eqb}
 use borrow.Author.Tests.{eq-eqb, ne-eqb, eqb-true, eqb-false}
-use Rattle.bitmap.specs.Sizes.{maxBlocks}
 use Rattle.bitmap.specs.Blocks.{isAvailable}
 use Rattle.bitmap.specs.Extents.{nearest, starts}
 use Rattle.bitmap.specs.Round.{wrapped, afterLast}
@@ -32,7 +31,7 @@ use Rattle.model.proofs.Laws.Accepted.{count-some, count-few, block-below, prec
 use Rattle.model.proofs.Laws.Extents.{nearestStart, nearest-extent, nearest-at, nearest-length}
 use Rattle.verdicts.specs.declared.verdict.Verdict.{Verdict}
 use Rattle.verdicts.specs.Verdicts.{verdict, isAccepted, unlessHolds, thenCauses}
-use Rattle.verdicts.proofs.Laws.Verdicts.{one-more, then-causes, then-known, then-passed, none-before, tested-last, unless-passed, accepted-none}
+use Rattle.verdicts.proofs.Laws.Verdicts.{one-more, then-causes, then-known, then-passed, none-before, tested-last, accepted-none}
 use Rattle.available.specs.Take.{Takes}
 use Rattle.extents.specs.Take.{CanTake, LiesIn, TakesExtent}
 use Rattle.extents.specs.Nearest.{CanSearch}

@@ -16,7 +16,7 @@ returns c = rw (eq-eqb (c .before .args .touched) 0 (c .if1 .taken))
 stores-for-requires : tie.Need-stores-for-requires
 stores-for-requires c κs =
     let b = c .before .before in
-    ⊎-elim (λ w. omega (arith, b .pre, w .0 .taken, w .1)) (λ w. omega (arith, b .pre, w .1)) (c .if2 .came)
+    ⊎-elim (λ (fewer, changed). omega (arith, b .pre, fewer .taken, changed)) (λ (_, changed). omega (arith, b .pre, changed)) (c .if2 .came)
 
 returns-2 : tie.Need-returns-2
 unfolding costFor
@@ -26,8 +26,8 @@ returns-2 c =
     c .stores-for .ensures
     ∙ rw (ne-eqb (a .touched) 0 (c .before .before .if1 .left))
     (⊎-elim
-    (λ w. ap storesFor (w .1 ∙ sym (min-eq-left (le-of-lt (w .0 .taken)))))
-    (λ w. ap storesFor (w .1 ∙ sym (min-eq-right (omega (arith, w .0 .left)))))
+    (λ (fewer, changed). ap storesFor (changed ∙ sym (min-eq-left (le-of-lt (fewer .taken)))))
+    (λ (not-fewer, changed). ap storesFor (changed ∙ sym (min-eq-right (omega (arith, not-fewer .left)))))
     (c .before .if2 .came))
 
 pub stores-at-most-spec : {M : Type 1} → statement M

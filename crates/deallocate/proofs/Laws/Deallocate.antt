@@ -1,22 +1,16 @@
 -- Deallocate: its verdict, and the bitmaps that it leaves.
-use Prim.Native.Nat.{ℕ, _≤_, _<_}
-use mathlib.Core.Path.{_≡_, sym, ap, ap₂, _∙_}
-use mathlib.Core.Bool.{true, false, not, _&&_}
-use mathlib.Core.List.{List, []}
-use lib.ListN.{drop}
-use borrow.Author.Tests.{le-leb, lt-leb}
+use Prim.Native.Nat.{ℕ, _<_}
+use mathlib.Core.Path.{_≡_, _∙_}
+use mathlib.Core.Bool.{true, not, _&&_}
 use lib.Dec.{eqb}
-use Rattle.bitmap.specs.Bits.{bit, bitmapOf}
+use Rattle.bitmap.specs.Bits.{bitmapOf}
 use Rattle.model_types.specs.declared.memory.Memory.{Memory}
-use Rattle.model_types.specs.declared.error.Error.the-variants.{BlockRange, BlockFree, BlockFreeing}
-use Rattle.model.specs.First.{first}
 use Rattle.model_types.specs.Memory.{slotAt, comBit, tamBit}
 use Rattle.model.specs.Valid.{valid}
-use Rattle.model.specs.Causes.{ofVolume, blockOutOfRange, blockFree, blockFreeing}
+use Rattle.model.specs.Causes.{ofVolume}
 use Rattle.model.specs.CauseLists.{blockCauses}
 use Rattle.model.specs.Calls.Precommit.{precommitError}
 use Rattle.model.specs.Calls.Deallocate.{deallocateError}
-use Rattle.model.proofs.Laws.First.{cause-holds, cause-passed, no-cause}
 use Rattle.model_types.proofs.Laws.Shape.{Shaped}
 use Rattle.model.proofs.Laws.Valid.{ValidParts, valid-parts, slot-below}
 use Rattle.bitops.specs.Block.{clearBit}

@@ -12,7 +12,7 @@ use Rattle.model_types.specs.Memory.{withSlots, withState}
 use Rattle.model.specs.Calls.Precommit.{precommitError, precommitting, precommitAnswer, precommitMemory}
 use Rattle.model_types.proofs.Laws.Shape.{Shaped, shaped}
 use Rattle.model.proofs.Laws.Accepted.{precommit-accepted}
-use Rattle.verdicts.proofs.Laws.Frame.{Frame, Judged, owner-read, at-is, own-slot, open-verdict, none-held, error-is, leaves-new, leaves-old}
+use Rattle.verdicts.proofs.Laws.Frame.{Frame, Judged, owner-read, own-slot, open-verdict, none-held, error-is, slot-leaves, slots-stay}
 use borrow.Author.Needs.{needs}
 use Rattle.precommit.proofs.precommit.Statement.{statement}
 use Rattle.precommit.proofs.precommit.Tie as tie
@@ -104,12 +104,9 @@ returns c =
       ⊎-elim
           (λ (accepted, _, new, slots-are).
           let below = precommit-accepted (a .memory) (a .slot) (none-held verdict (accepted .taken)) .ready .below in
-          let slot-is = new .ensures ∙ ap (λ (slot : Slot). withState slot Precommitted) (own-slot (frame-at at) _ below) in
-          ap (λ (slots : List Slot). withSlots (a .memory) slots) (slots-are ∙ ap₂ (set (a .memory .slots)) (at-is (frame-at at) below) slot-is)
-          ∙ leaves-new verdict (precommitting (a .memory) (a .slot)) (a .memory) (accepted .taken))
-          (λ (refused, slots-are).
-          ap (λ (slots : List Slot). withSlots (a .memory) slots) slots-are
-          ∙ leaves-old verdict (precommitting (a .memory) (a .slot)) (a .memory) (refused .left))
+          slot-leaves (frame-at at) verdict _ (accepted .taken) below slots-are
+          (new .ensures ∙ ap (λ (slot : Slot). withState slot Precommitted) (own-slot (frame-at at) _ below)))
+          (λ (refused, slots-are). slots-stay (frame-at at) verdict (precommitting (a .memory) (a .slot)) (refused .left) slots-are)
           (c .if1 .came),
     )
 

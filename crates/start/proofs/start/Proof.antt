@@ -1,7 +1,7 @@
 -- The slot's causes decide; accepted, the slot is the definition's.
 use mathlib.Core.List.{List}
 use lib.ListN.{set}
-use mathlib.Core.Path.{_≡_, ap, ap₂, _∙_}
+use mathlib.Core.Path.{ap, ap₂, _∙_}
 use mathlib.Core.Logic.{⊎-elim}
 use Rattle.model_types.specs.declared.memory.Slot.{Slot}
 use Rattle.model_types.specs.Answers.{done}
@@ -9,7 +9,7 @@ use Rattle.model_types.specs.Memory.{withSlots}
 use Rattle.model.specs.Calls.Start.{startError, started, startAnswer, startMemory}
 use Rattle.model_types.proofs.Laws.Shape.{Shaped, shaped}
 use Rattle.model.proofs.Laws.Accepted.{start-accepted}
-use Rattle.verdicts.proofs.Laws.Frame.{Frame, Judged, owner-read, at-is, idle-verdict, none-held, error-is, leaves-new, leaves-old}
+use Rattle.verdicts.proofs.Laws.Frame.{Frame, Judged, owner-read, idle-verdict, none-held, error-is, slot-leaves, slots-stay}
 use borrow.Author.Needs.{needs}
 use Rattle.start.proofs.start.Statement.{statement}
 use Rattle.start.proofs.start.Tie as tie
@@ -101,11 +101,8 @@ returns c =
       ⊎-elim
           (λ (accepted, new, slots-are).
           let below = start-accepted (a .memory) (a .slot) (none-held verdict (accepted .taken)) .ready .below in
-          ap (λ (slots : List Slot). withSlots (a .memory) slots) (slots-are ∙ ap₂ (set (a .memory .slots)) (at-is (frame-at at) below) (new .ensures))
-          ∙ leaves-new verdict (started (a .memory) (a .slot)) (a .memory) (accepted .taken))
-          (λ (refused, slots-are).
-          ap (λ (slots : List Slot). withSlots (a .memory) slots) slots-are
-          ∙ leaves-old verdict (started (a .memory) (a .slot)) (a .memory) (refused .left))
+          slot-leaves (frame-at at) verdict _ (accepted .taken) below slots-are (new .ensures))
+          (λ (refused, slots-are). slots-stay (frame-at at) verdict (started (a .memory) (a .slot)) (refused .left) slots-are)
           (c .if1 .came),
     )
 

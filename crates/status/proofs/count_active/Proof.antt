@@ -51,8 +51,8 @@ loop-again c =
       search needs,
       ⊎-elim (λ w. omega arith) (λ w. omega arith) (c .if1 .came),
       ⊎-elim
-          (λ w. rw (w .1) (one-more (b .args .t1) (l .loop .s) _ (l .loop .count) there (l .loop .inv .2) (flag ∙ w .0 .taken)))
-          (λ w. rw (w .1) (same-count (b .args .t1) (l .loop .s) _ (l .loop .count) there (l .loop .inv .2) (flag ∙ w .0 .left)))
+          (λ (active, count). rw count (one-more (b .args .t1) (l .loop .s) _ (l .loop .count) there (l .loop .inv .2) (flag ∙ active .taken)))
+          (λ (idle, count). rw count (same-count (b .args .t1) (l .loop .s) _ (l .loop .count) there (l .loop .inv .2) (flag ∙ idle .left)))
           (c .if1 .came),
     )
 

@@ -33,7 +33,7 @@ memory-at c =
     memoryOf (c .args .blocks) (c .args .cursor) (bitmap (c .args .sam .now)) (bitmap (c .args .«com» .now)) (c .args .t5) noReserves Pending.Nothing
 
 shape-at : (c : tie.Start Inv-loop μ-loop) → Shaped (memory-at c)
-shape-at c = parts-shaped (c .pre .0) (c .pre .1) (slots-shaped (c .args .t5) _ (c .good .1 .1 .1 .1 .0)) none-shaped
+shape-at c = let (_, (_, (_, (_, (slots, _))))) = c .good in parts-shaped (c .pre .0) (c .pre .1) (slots-shaped (c .args .t5) _ slots) none-shaped
 
 abbrev start : tie.At-loop Inv-loop μ-loop → tie.Start Inv-loop μ-loop
 start c = c .before .before .before .before .before
@@ -63,8 +63,9 @@ taken-at c r e =
     let state = c .before .is-active .ensures in
     taken-same (slot-at (turn c) _) e
     (⊎-elim
-    (λ w. active-taken (sym state ∙ w .0 .taken) (record { answer = w .7 ∙ w .5 .ensures .answer; rest = w .6 ∙ w .5 .ensures .rest }))
-    (λ w. idle-taken (sym state ∙ w .0 .left) (record { answer = w .6 ∙ w .4 .ensures; rest = w .5 }))
+    (λ (active, _, _, _, _, took, left-is, answer-is).
+    active-taken (sym state ∙ active .taken) (record { answer = answer-is ∙ took .ensures .answer; rest = left-is ∙ took .ensures .rest }))
+    (λ (idle, _, _, _, empty, left-is, answer-is). idle-taken (sym state ∙ idle .left) (record { answer = answer-is ∙ empty .ensures; rest = left-is }))
     (c .if2 .came))
 
 -- ---- the answers

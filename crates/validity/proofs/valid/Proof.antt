@@ -35,8 +35,9 @@ quiet-at c = withPending (memory-at c) Pending.Nothing
 
 shape-at : (c : tie.Start) → Shaped (memory-at c)
 shape-at c =
-    parts-shaped (c .pre .0) (c .pre .1 .0) (slots-shaped (c .args .slots) _ (c .good .1 .1 .1 .0))
-    (reserves-field-shaped (c .args .numbers .reserves) _ (c .good .0 .1 .1 .1 .1 .0))
+    let (numbers, (_, (_, (slots, _)))) = c .good in
+    let (_, (_, (_, (_, (reserves, _))))) = numbers in
+    parts-shaped (c .pre .0) (c .pre .1 .0) (slots-shaped (c .args .slots) _ slots) (reserves-field-shaped (c .args .numbers .reserves) _ reserves)
 
 owner-at : (c : tie.Start) → c .args .owner ≡ slotAt (memory-at c) (ownerOf (c .args .pending))
 owner-at c = c .pre .1 .1

@@ -1,11 +1,11 @@
 -- The frame of a call: what it has read and tested before its verdict. It tells the slot that the call looks at, the call's verdict,
 -- and by that what the call answers and leaves.
 use Prim.Native.Nat.{ℕ, _<_}
-use mathlib.Core.Path.{_≡_, refl, ap, _∙_}
+use mathlib.Core.Path.{_≡_, refl, ap, ap₂, _∙_}
 use mathlib.Core.Bool.{Bool, true, false}
 use mathlib.Core.Option.{Option, none}
 use mathlib.Core.List.{List, [], _∷_, _++_}
-use lib.ListN.{getD, take, drop}
+use lib.ListN.{getD, set, take, drop}
 use borrow.Author.Tests.{lt-ltb, ltb-true}
 use Rattle.bitmap.specs.Bits.{IsBitmap}
 use Rattle.bitmap.specs.Sizes.{slotCount, slotInRange, slotIndex, IsSlot}
@@ -15,7 +15,7 @@ use Rattle.model_types.specs.declared.memory.Memory.{Memory}
 use Rattle.model_types.specs.declared.error.Error.{Error}
 use Rattle.model_types.specs.declared.error.Error.the-variants.{SlotRange}
 use Rattle.model.specs.First.{Cause, first, firstOr, unlessRefused, _⇒_}
-use Rattle.model_types.specs.Memory.{slotAt, idleSlot}
+use Rattle.model_types.specs.Memory.{slotAt, idleSlot, withSlots, withSlot}
 use Rattle.model_types.specs.Pending.{ownerOf}
 use Rattle.model.specs.Reserves.{othersReserved}
 use Rattle.model.specs.Valid.{valid}
@@ -151,3 +151,15 @@ module _ {found : Option Error} {v : Verdict} {accepted : Bool} (judged : Judged
 
   pub leaves-old {ℓ} : {A : Type ℓ} (new old : A) → accepted ≡ false → old ≡ unlessRefused found new old
   leaves-old new old e = refused-leaves found new old (judged .is) (judged .test) e
+
+-- a call that alters its slot alone: accepted, the slot is the new one, and refused all slots are as they were
+module _ {at : ℕ} {sound : Bool} {memory : Memory} {s : ℕ} {found : Option Error} {v : Verdict} {accepted : Bool}
+    (frame : Frame memory s at sound) (judged : Judged found v accepted) where
+  pub slot-leaves : {slots : List Slot} {made : Slot} (slot : Slot) → accepted ≡ true → s < slotCount → slots ≡ set (memory .slots) at made → made ≡ slot
+      → withSlots memory slots ≡ unlessRefused found (withSlot memory s slot) memory
+  slot-leaves slot taken below slots-are made-is =
+      ap (λ (slots : List Slot). withSlots memory slots) (slots-are ∙ ap₂ (set (memory .slots)) (at-is frame below) made-is)
+      ∙ leaves-new judged (withSlot memory s slot) memory taken
+
+  pub slots-stay : {slots : List Slot} (new : Memory) → accepted ≡ false → slots ≡ memory .slots → withSlots memory slots ≡ unlessRefused found new memory
+  slots-stay new left slots-are = ap (λ (slots : List Slot). withSlots memory slots) slots-are ∙ leaves-old judged new memory left

@@ -31,7 +31,7 @@ memory-at c =
     memoryOf (c .args .blocks) 0 (bitmap (c .args .sam .now)) (bitmap (c .args .«com» .now)) (c .args .t4) noReserves (Pending.Recovery (c .args .done) (c .args .due))
 
 slots-at : (c : tie.Start Inv-loop μ-loop) → ShapedSlots (c .args .t4)
-slots-at c = slots-shaped (c .args .t4) _ (c .good .1 .1 .1 .0)
+slots-at c = let (_, (_, (_, (slots, _)))) = c .good in slots-shaped (c .args .t4) _ slots
 
 -- the state of the slot that a turn looks at
 state-at : (c : tie.After-is-active Inv-loop μ-loop)
