@@ -1,8 +1,6 @@
 // The test program `inspect` (docs/TEST-LINES.md): bench lines, and further lines that damage what the calls are lent.
 // It is a library so that several programs can be it, each with its own stored input and output.
-mod call;
 mod line;
-mod next;
 
 ghost use mathlib.Core.Path.{_≡_};
 ghost use lib.ListN.{length};

@@ -1,14 +1,13 @@
 // One line of input to its answer line.
 ghost use Rattle.printing.specs.Waits.{Waits};
 ghost use Rattle.inspect_state.specs.Sized.{Sized};
-use crate::call::call;
 use check::same;
+use inspect_call::call;
 use inspect_counts::put_answered;
+use inspect_further::alter;
 use inspect_show::put_fixture;
-use inspect_state::alter::alter;
 use inspect_state::fixture::Fixture;
 use inspect_state::fixture::Step;
-use inspect_state::further;
 use model_types::line::Parsed;
 use printing::place;
 use status::status;
@@ -26,7 +25,7 @@ fn step(line: &[u8], fixture: Fixture) -> Step
 {
     match bench_line::parse(line) {
         Parsed::Call(asked) => call(asked, fixture),
-        Parsed::Malformed => alter(further::parse(line), fixture),
+        Parsed::Malformed => alter(further_line::parse(line), fixture),
     }
 }
 

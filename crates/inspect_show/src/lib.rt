@@ -127,36 +127,34 @@ fn put_memory(out: &mut [u8], at: usize, memory: Memory) -> usize
 }
 
 // The disk.
-fn put_disk(out: &mut [u8], at: usize, fixture: Fixture) -> usize
+fn put_disk(out: &mut [u8], at: usize, disk: &[u32]) -> usize
     requires { ⌜ Waits (now out) at ⌝ }
-    requires { ⌜ Sized fixture ⌝ }
     ensures { λ r. ⌜ Waits (now (out .exit)) r ⌝ }
 {
-    let length = fixture.length;
-    let disk = fixture.disk;
-    let next = put_field(out, at, b"disk length=", length as u64);
-    put_words(out, next, &disk[..length])
+    let next = put_field(out, at, b"disk length=", disk.len() as u64);
+    put_words(out, next, disk)
 }
 
 // The list.
-fn put_places(out: &mut [u8], at: usize, fixture: Fixture) -> usize
+fn put_places(out: &mut [u8], at: usize, list: &[u32]) -> usize
     requires { ⌜ Waits (now out) at ⌝ }
-    requires { ⌜ Sized fixture ⌝ }
     ensures { λ r. ⌜ Waits (now (out .exit)) r ⌝ }
 {
-    let places = fixture.places;
-    let list = fixture.list;
-    let next = put_field(out, at, b"list length=", places as u64);
-    put_list(out, next, &list[..places])
+    let next = put_field(out, at, b"list length=", list.len() as u64);
+    put_list(out, next, list)
 }
 
-// The whole fixture.
+// The whole fixture: the memory, and what is lent of the disk and of the list.
 pub fn put_fixture(out: &mut [u8], at: usize, fixture: Fixture) -> usize
     requires { ⌜ Waits (now out) at ⌝ }
     requires { ⌜ Sized fixture ⌝ }
     ensures { λ r. ⌜ Waits (now (out .exit)) r ⌝ }
 {
+    let length = fixture.length;
+    let places = fixture.places;
+    let disk = fixture.disk;
+    let list = fixture.list;
     let after_memory = put_memory(out, at, fixture.memory);
-    let after_disk = put_disk(out, after_memory, fixture);
-    put_places(out, after_disk, fixture)
+    let after_disk = put_disk(out, after_memory, &disk[..length]);
+    put_places(out, after_disk, &list[..places])
 }

@@ -4,6 +4,7 @@ use crate::put_words;
 use bitmap::Bitmap;
 use model_types::memory::Memory;
 use model_types::memory::Reserve;
+use model_types::memory::Slot;
 use model_types::memory::SlotState;
 use printing::put_field;
 
@@ -34,7 +35,19 @@ fn put_reserve(out: &mut [u8], at: usize, reserve: Reserve) -> usize
     put_field(out, next, b" drawn=", reserve.drawn as u64)
 }
 
-// Each slot on a line.
+// A slot on a line.
+fn put_slot(out: &mut [u8], at: usize, s: usize, slot: Slot, reserve: Reserve) -> usize
+    requires { ⌜ Waits (now out) at ⌝ }
+    ensures { λ r. ⌜ Waits (now (out .exit)) r ⌝ }
+{
+    let state = slot.state;
+    let tam = slot.tam;
+    let name = put_state(out, at, s, state);
+    let numbers = put_reserve(out, name, reserve);
+    put_words(out, numbers, &tam.words)
+}
+
+// Each slot.
 pub(crate) fn put_slots(out: &mut [u8], at: usize, memory: Memory) -> usize
     requires { ⌜ Waits (now out) at ⌝ }
     ensures { λ r. ⌜ Waits (now (out .exit)) r ⌝ }
@@ -42,10 +55,7 @@ pub(crate) fn put_slots(out: &mut [u8], at: usize, memory: Memory) -> usize
     let mut end = at;
     let mut s = 0;
     while s < Bitmap::SLOTS {
-        let own = memory.slots[s];
-        let name = put_state(out, end, s, own.state);
-        let numbers = put_reserve(out, name, memory.reserves[s]);
-        end = put_words(out, numbers, &own.tam.words);
+        end = put_slot(out, end, s, memory.slots[s], memory.reserves[s]);
         s += 1;
     }
     end

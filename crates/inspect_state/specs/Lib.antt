@@ -1,3 +1,2 @@
--- Bounds of what is kept, and numbers in a line.
+-- Bounds of what is kept.
 pub mod Sized
-pub mod Onward

@@ -1,7 +1,3 @@
-// What `inspect` keeps between two lines, and the further lines that alter it (docs/TEST-LINES.md).
-pub mod alter;
-pub mod asked;
-mod damage;
+// What `inspect` keeps between two lines, and how much of its disk and of its list is lent (docs/TEST-LINES.md).
 pub mod fixture;
-pub mod further;
-mod numbers;
+pub mod lent;

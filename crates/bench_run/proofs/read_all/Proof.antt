@@ -20,8 +20,8 @@ Inv-loop input₀ disk₀ line₀ out₀ run₀ read₀ written₀ most left₀ 
 abbrev μ-loop : tie.MeasureT-loop
 μ-loop input₀ disk₀ line₀ out₀ run₀ read₀ written₀ most left₀ input disk line out run read written left = left
 
--- the places: a piece gone over, before its answers are written; its length known; that piece read; the turn's start; the function's
--- entry
+-- ---- the places, each from the next one behind it
+
 abbrev ran : tie.After-write-piece Inv-loop μ-loop → tie.After-run-read Inv-loop μ-loop
 ran c = c .before .before .before .before .before .before .before .before
 
@@ -34,8 +34,10 @@ read c = c .before .before .before
 abbrev turn : tie.After-read-piece Inv-loop μ-loop → tie.In-loop Inv-loop μ-loop
 turn c = c .before .before
 
-abbrev entry : tie.At-loop Inv-loop μ-loop → tie.Start Inv-loop μ-loop
-entry c = c .before .before .before .before .before .before .before .before
+abbrev begun : tie.After-none2 Inv-loop μ-loop → tie.Start Inv-loop μ-loop
+begun c = c .before .before .before .before .before .before .before
+
+-- ---- the needs
 
 new-requires : tie.Need-new-requires Inv-loop μ-loop
 new-requires c κs = tt
@@ -48,7 +50,7 @@ none-requires-2 c κs = tt
 
 loop-holds : tie.Need-loop-holds Inv-loop μ-loop
 loop-holds c =
-    let s = c .before .before .before .before .before .before .before in
+    let s = begun c in
     let a = s .args in (
       refl,
       refl,
@@ -59,8 +61,9 @@ loop-holds c =
 
 read-piece-requires : tie.Need-read-piece-requires Inv-loop μ-loop
 read-piece-requires c κs =
-    let i = c .before .before .loop .inv in
-    omega (arith, i .0, i .4 .going (c .before .loop-test .taken), c .before .loop-test .taken)
+    let (most-read, _, _, _, reading) = c .before .before .loop .inv in
+    let more = c .before .loop-test .taken in
+    omega (arith, most-read, reading .going more, more)
 
 last-requires : tie.Need-last-requires Inv-loop μ-loop
 last-requires c κs = tt
@@ -73,21 +76,24 @@ run-read-requires : tie.Need-run-read-requires Inv-loop μ-loop
 run-read-requires c κs =
     let n = c .before .before .before .before in
     let l = turn (read n) .before in
-    let i = l .loop .inv in
-    let p = entry l .pre in
-    (omega (arith, inside n), (i .4 .between, record { kept-fits = i .2; answers-fit = omega (arith, read n .read-piece .kept .1 .0, i .0, i .3, p .1 .answers-fit) }))
+    let (most-read, _, line-fits, same-out, reading) = l .loop .inv in
+    let (_, (same-input, _)) = read n .read-piece .kept in
+    let room = begun (l .before) .pre .1 in
+    (omega (arith, inside n), (reading .between, record { kept-fits = line-fits; answers-fit = omega (arith, same-input, most-read, same-out, room .answers-fit) }))
 
 write-piece-requires : tie.Need-write-piece-requires Inv-loop μ-loop
 write-piece-requires c κs =
     let r = c .before .before .before .before .before .before .before in
-    let i = turn (read (known r)) .before .loop .inv .4 in
-    (omega (arith, r .run-read .ensures .0 .within), omega (arith, i .answers, r .run-read .ensures .0 .answers, r .run-read .ensures .0 .between .lines))
+    let (_, _, _, _, reading) = turn (read (known r)) .before .loop .inv in
+    (omega (arith, r .run-read .ensures .0 .within), omega (arith, reading .answers, r .run-read .ensures .0 .answers, r .run-read .ensures .0 .between .lines))
 
 -- and fewer bytes than are left
 few : (c : tie.After-last Inv-loop μ-loop) → c .last .result ≤ turn (read c) .before .loop .left
 few c =
     let t = turn (read c) in
-    omega (arith, inside c, read c .read-piece .kept .1 .0, t .before .loop .inv .0, t .loop-test .taken)
+    let (most-read, _, _, _, _) = t .before .loop .inv in
+    let (_, (same-input, _)) = read c .read-piece .kept in
+    omega (arith, inside c, same-input, most-read, t .loop-test .taken)
 
 sub-left : tie.Need-sub-left Inv-loop μ-loop
 sub-left c = omega (arith, few (known (ran (c .before .before))))
@@ -104,13 +110,14 @@ loop-again c =
     let n = known r in
     let p = read n .read-piece in
     let t = turn (read n) in
-    let i = t .before .loop .inv in
-    let k = r .run-read .kept .1 .1 .1 in (
-      p .kept .1 .0 ∙ i .0,
-      k .0 ∙ i .1,
-      k .1 .0 ∙ i .2,
-      k .1 .1 .0 ∙ i .3,
-      reading-more (i .4) (t .loop-test .taken) _ _ (r .run-read .ensures .0) (omega (arith, inside n)) (p .result) (n .last .ensures) (p .ensures .1) (w .write-piece .result) (w .write-piece .ensures) (few n),
+    let (most-read, was-disk, was-line, was-out, reading) = t .before .loop .inv in
+    let (_, (same-input, _)) = p .kept in
+    let (_, (_, (_, (same-disk, (same-line, (same-out, _)))))) = r .run-read .kept in (
+      same-input ∙ most-read,
+      same-disk ∙ was-disk,
+      same-line ∙ was-line,
+      same-out ∙ was-out,
+      reading-more reading (t .loop-test .taken) _ _ (r .run-read .ensures .0) (omega (arith, inside n)) (p .result) (n .last .ensures) (p .ensures .1) (w .write-piece .result) (w .write-piece .ensures) (few n),
     )
 
 loop-less-2 : tie.Need-loop-less-2 Inv-loop μ-loop
@@ -123,13 +130,14 @@ loop-again-2 c =
     let n = known r in
     let p = read n .read-piece in
     let t = turn (read n) in
-    let i = t .before .loop .inv in
-    let k = r .run-read .kept .1 .1 .1 in (
-      p .kept .1 .0 ∙ i .0,
-      k .0 ∙ i .1,
-      k .1 .0 ∙ i .2,
-      k .1 .1 .0 ∙ i .3,
-      reading-done (i .4) (t .loop-test .taken) _ _ (r .run-read .ensures .0) (omega (arith, inside n)) (p .result) (n .last .ensures) (p .ensures .1) (w .write-piece .result) (w .write-piece .ensures)
+    let (most-read, was-disk, was-line, was-out, reading) = t .before .loop .inv in
+    let (_, (same-input, _)) = p .kept in
+    let (_, (_, (_, (same-disk, (same-line, (same-out, _)))))) = r .run-read .kept in (
+      same-input ∙ most-read,
+      same-disk ∙ was-disk,
+      same-line ∙ was-line,
+      same-out ∙ was-out,
+      reading-done reading (t .loop-test .taken) _ _ (r .run-read .ensures .0) (omega (arith, inside n)) (p .result) (n .last .ensures) (p .ensures .1) (w .write-piece .result) (w .write-piece .ensures)
           (sym (r .run-read .ensures .1) ∙ c .if1 .left),
     )
 
@@ -140,7 +148,7 @@ same-length-2 : tie.Need-same-length-2 Inv-loop μ-loop
 same-length-2 c = c .before .loop .inv .1
 
 same-length-3 : tie.Need-same-length-3 Inv-loop μ-loop
-same-length-3 c = c .before .loop .inv .2 ∙ sym (entry (c .before) .pre .1 .kept-fits)
+same-length-3 c = c .before .loop .inv .2 ∙ sym (begun (c .before .before) .pre .1 .kept-fits)
 
 same-length-4 : tie.Need-same-length-4 Inv-loop μ-loop
 same-length-4 c = c .before .loop .inv .3

@@ -6,27 +6,44 @@ use borrow.Author.Needs.{needs}
 use Rattle.bench_run.proofs.run_all.Statement.{statement}
 use Rattle.bench_run.proofs.run_all.Tie as tie
 
--- the places: all pieces read, before the last line; the function's entry
-abbrev read : tie.After-last-line → tie.After-read-all
-read c = c .before .before .before .before .before .before .before .before .before .before .before .before .before
+-- ---- the places, each from the next one behind it
 
 abbrev entry : tie.After-read-all → tie.Start
 entry c = c .before .before .before .before .before .before .before .before .before
+
+abbrev read : tie.After-run → tie.After-read-all
+read c = c .before .before .before .before .before .before .before .before .before
+
+abbrev lent : tie.After-last-line-arg3 → tie.After-run
+lent c = c .before .before .before
+
+abbrev last : tie.After-before2 → tie.After-last-line
+last c = c .before .before .before .before .before .before .before
+
+abbrev written : tie.After-read → tie.After-write-piece
+written c = c .before
+
+-- ---- the needs
 
 read-all-requires : tie.Need-read-all-requires
 read-all-requires c κs = search needs
 
 last-line-requires : tie.Need-last-line-requires
 last-line-requires c κs =
-    let r = c .before .before .before .before .before .before .before .before .before .before .before .before in
+    let r = read (lent c) in
     let p = entry r .pre .1 in
-    (r .read-all .ensures .between, record { kept-fits = r .read-all .kept .1 .1 .0 ∙ p .kept-fits; answers-fit = omega (arith, r .read-all .kept .1 .1 .1 .0, p .answers-fit) })
+    let (_, (_, (same-line, (same-out, _)))) = r .read-all .kept in
+    (r .read-all .ensures .between, record { kept-fits = same-line ∙ p .kept-fits; answers-fit = omega (arith, same-out, p .answers-fit) })
 
 write-piece-requires : tie.Need-write-piece-requires
 write-piece-requires c κs =
-    let l = c .before .before .before .before .before .before .before .before in
-    let r = read l in
-    (omega (arith, l .last-line .ensures .within), omega (arith, l .last-line .ensures .within, l .last-line .kept .1 .1 .1 .0, r .read-all .kept .1 .1 .1 .0, r .read-all .ensures .few, entry r .good .1 .1 .1 .0))
+    let l = last (c .before) in
+    let r = read (lent (l .before)) in
+    let within = l .last-line .ensures .within in
+    let (_, (_, (_, (then-same-out, _)))) = l .last-line .kept in
+    let (_, (_, (_, (same-out, _)))) = r .read-all .kept in
+    let (_, (_, (_, (out-fits, _)))) = entry r .good in
+    (omega (arith, within), omega (arith, within, then-same-out, same-out, r .read-all .ensures .few, out-fits))
 
 same-length : tie.Need-same-length
 same-length c = search needs
@@ -42,8 +59,9 @@ same-length-4 c = search needs
 
 returns : tie.Need-returns
 returns c =
-    let l = c .before .before .before .before .before .before .before .before .before .before in
-    whole (c .before .write-piece .result) (read l .read-all .ensures) (l .last-line .ensures) (c .before .write-piece .ensures)
+    let w = written c in
+    let l = last (w .before .before) in
+    whole (w .write-piece .result) (read (lent (l .before)) .read-all .ensures) (l .last-line .ensures) (w .write-piece .ensures)
 
 pub run-all-spec : {M : Type 1} → statement M
 run-all-spec =

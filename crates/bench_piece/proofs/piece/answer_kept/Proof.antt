@@ -9,6 +9,19 @@ use borrow.Author.Needs.{needs}
 use Rattle.bench_piece.proofs.piece.answer_kept.Statement.{statement}
 use Rattle.bench_piece.proofs.piece.answer_kept.Tie as tie
 
+-- ---- the places, each from the next one behind it
+
+abbrev entry : tie.After-memory → tie.Start
+entry c = c .before .before .before .before
+
+abbrev lent : tie.After-answer-lines-arg3 → tie.After-memory
+lent c = c .before .before .before
+
+abbrev answered : tie.After-slice-known5 → tie.After-answer-lines
+answered c = c .before .before .before .before
+
+-- ---- the needs
+
 slice-write-line : tie.Need-slice-write-line
 slice-write-line c = search needs
 
@@ -17,17 +30,17 @@ add-answer-lines c = search needs
 
 slice-reshare-prefix-answer-lines : tie.Need-slice-reshare-prefix-answer-lines
 slice-reshare-prefix-answer-lines c =
-    let s = c .before .before .before .before in
+    let s = entry c in
     rw (length-set (now (s .args .line)) (s .args .run .len) newline) (omega (arith, line-inside (s .args .run) (now (s .args .line)) (s .pre .0) (s .pre .1 .kept-fits)))
 
 slice-aggregate-answer-lines : tie.Need-slice-aggregate-answer-lines
 slice-aggregate-answer-lines c =
-    let s = c .before .before .before .before .before in
+    let s = entry (c .before) in
     sym (line-length (s .args .run) (now (s .args .line)) (s .pre .0) (s .pre .1 .kept-fits))
 
 answer-lines-requires : tie.Need-answer-lines-requires
 answer-lines-requires c κs =
-    let s = c .before .before .before .before .before .before .before in
+    let s = entry (lent c) in
     (s .pre .0 .lines, omega (arith, line-length (s .args .run) (now (s .args .line)) (s .pre .0) (s .pre .1 .kept-fits), s .pre .0 .few, s .pre .1 .answers-fit))
 
 same-length : tie.Need-same-length
@@ -41,10 +54,10 @@ same-length-3 c = search needs
 
 returns : tie.Need-returns
 returns c =
-    let s = c .before .before .before .before .before .before .before .before .before .before .before .before in
+    let s = entry (lent (answered c .before)) in
     let a = s .args in
-    let r = c .before .before .before .before .answer-lines in
-    line-ended (a .run) (now (a .line)) (s .pre .0) (s .pre .1 .kept-fits) (now (a .disk)) (now (a .out)) (r .result) (r .last .1 .1 .1 .0) (r .last .1 .1 .1 .1 .0) (r .ensures)
+    let r = answered c .answer-lines in
+    line-ended (a .run) (now (a .line)) (s .pre .0) (s .pre .1 .kept-fits) (now (a .disk)) (now (a .out)) (r .result) _ _ (r .ensures)
 
 pub answer-kept-spec : {M : Type 1} → statement M
 answer-kept-spec =

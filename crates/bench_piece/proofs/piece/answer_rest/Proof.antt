@@ -5,6 +5,19 @@ use borrow.Author.Needs.{needs}
 use Rattle.bench_piece.proofs.piece.answer_rest.Statement.{statement}
 use Rattle.bench_piece.proofs.piece.answer_rest.Tie as tie
 
+-- ---- the places, each from the next one behind it
+
+abbrev entry : tie.After-answer-lines → tie.Start
+entry c = c .before .before .before .before .before .before .before .before
+
+abbrev answered : tie.After-keep → tie.After-answer-lines
+answered c = c .before .before .before .before .before .before .before
+
+abbrev kept : tie.After-memory2 → tie.After-keep
+kept c = c .before .before .before
+
+-- ---- the needs
+
 answer-lines-requires : tie.Need-answer-lines-requires
 answer-lines-requires c κs = search needs
 
@@ -31,10 +44,10 @@ same-length-3 c = search needs
 
 returns : tie.Need-returns
 returns c =
-    let s = c .before .before .before .before .before .before .before .before .before .before .before .before .before .before .before .before .before .before in
-    let r = c .before .before .before .before .before .before .before .before .before .before .answer-lines in
-    let k = c .before .before .before .keep in
-    (rest-run (s .args .first) (r .ensures) (k .ensures) (s .pre .1 .1) (r .kept .1 .1 .1 .1 .0) _, refl)
+    let lines = answered (kept c) in
+    let s = entry lines in
+    let (_, (_, (_, (_, (same-out, _))))) = lines .answer-lines .kept in
+    (rest-run (s .args .first) (lines .answer-lines .ensures) (kept c .keep .ensures) (s .pre .1 .1) same-out _, refl)
 
 pub answer-rest-spec : {M : Type 1} → statement M
 answer-rest-spec =

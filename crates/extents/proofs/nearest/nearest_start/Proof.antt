@@ -61,7 +61,7 @@ returns-3 c =
     let tested = c .before in
     let s = tested .before .before .before in
     below-nearest (s .args .starts .now) (s .pre .0) (s .pre .1 .none) (above (tested .before .before)) (below tested)
-    (λ l. ⊎-elim (λ w. w .1 .left) (λ w. absurd (not-le-of-lt l (w .left))) (c .if2 .came))
+    (λ l. ⊎-elim (λ (_, further). further .left) (λ beyond. absurd (not-le-of-lt l (beyond .left))) (c .if2 .came))
 
 pub nearest-start-spec : {M : Type 1} → statement M
 nearest-start-spec =

@@ -15,26 +15,20 @@ abbrev μ-loop : tie.MeasureT-loop
 loop-holds : tie.Need-loop-holds Inv-loop μ-loop
 loop-holds c = search needs
 
-mul-own : tie.Need-mul-own Inv-loop μ-loop
-mul-own c = search needs
+mul-put-slot : tie.Need-mul-put-slot Inv-loop μ-loop
+mul-put-slot c = search needs
 
-element-copy-out-own : tie.Need-element-copy-out-own Inv-loop μ-loop
-element-copy-out-own c = search needs
+element-copy-out-put-slot : tie.Need-element-copy-out-put-slot Inv-loop μ-loop
+element-copy-out-put-slot c = search needs
 
-put-state-requires : tie.Need-put-state-requires Inv-loop μ-loop
-put-state-requires c κs = search needs
+mul-put-slot-2 : tie.Need-mul-put-slot-2 Inv-loop μ-loop
+mul-put-slot-2 c = search needs
 
-mul-put-reserve : tie.Need-mul-put-reserve Inv-loop μ-loop
-mul-put-reserve c = search needs
+element-copy-out-put-slot-2 : tie.Need-element-copy-out-put-slot-2 Inv-loop μ-loop
+element-copy-out-put-slot-2 c = search needs
 
-element-copy-out-put-reserve : tie.Need-element-copy-out-put-reserve Inv-loop μ-loop
-element-copy-out-put-reserve c = search needs
-
-put-reserve-requires : tie.Need-put-reserve-requires Inv-loop μ-loop
-put-reserve-requires c κs = search needs
-
-put-words-requires : tie.Need-put-words-requires Inv-loop μ-loop
-put-words-requires c κs = search needs
+put-slot-requires : tie.Need-put-slot-requires Inv-loop μ-loop
+put-slot-requires c κs = search needs
 
 add-s : tie.Need-add-s Inv-loop μ-loop
 add-s c = search needs
@@ -58,13 +52,11 @@ put-slots-spec =
     Inv-loop
     μ-loop
     loop-holds
-    mul-own
-    element-copy-out-own
-    put-state-requires
-    mul-put-reserve
-    element-copy-out-put-reserve
-    put-reserve-requires
-    put-words-requires
+    mul-put-slot
+    element-copy-out-put-slot
+    mul-put-slot-2
+    element-copy-out-put-slot-2
+    put-slot-requires
     add-s
     loop-less
     loop-again

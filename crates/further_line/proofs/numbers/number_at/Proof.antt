@@ -2,9 +2,9 @@
 use Prim.Native.Nat.{_≤_, _-_}
 use lib.ListN.{length}
 use borrow.Author.Needs.{needs}
-use Rattle.inspect_state.specs.Onward.{tooLarge}
-use Rattle.inspect_state.proofs.numbers.number_at.Statement.{statement}
-use Rattle.inspect_state.proofs.numbers.number_at.Tie as tie
+use Rattle.further_line.specs.Onward.{tooLarge}
+use Rattle.further_line.proofs.numbers.number_at.Statement.{statement}
+use Rattle.further_line.proofs.numbers.number_at.Tie as tie
 
 abbrev Inv-loop : tie.InvT-loop
 Inv-loop line at value₀ next₀ value next = (at ≤ next) × (next ≤ length line) × (value ≤ tooLarge)

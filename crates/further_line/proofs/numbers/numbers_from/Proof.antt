@@ -2,8 +2,8 @@
 use Prim.Native.Nat.{_≤_, _-_}
 use lib.ListN.{length}
 use borrow.Author.Needs.{needs}
-use Rattle.inspect_state.proofs.numbers.numbers_from.Statement.{statement}
-use Rattle.inspect_state.proofs.numbers.numbers_from.Tie as tie
+use Rattle.further_line.proofs.numbers.numbers_from.Statement.{statement}
+use Rattle.further_line.proofs.numbers.numbers_from.Tie as tie
 
 abbrev Inv-loop : tie.InvT-loop
 Inv-loop line at numbers₀ next₀ numbers next = at ≤ next

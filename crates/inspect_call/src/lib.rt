@@ -1,10 +1,7 @@
-// The call that a bench line asks for.
+// The call that a bench line asks for, on what `inspect` lends.
+mod next;
+
 ghost use Rattle.inspect_state.specs.Sized.{Sized};
-use crate::next::Next;
-use crate::next::changed;
-use crate::next::granted;
-use crate::next::measured;
-use crate::next::stored;
 use allocate::allocate;
 use commit::commit;
 use deallocate::deallocate;
@@ -14,6 +11,11 @@ use inspect_state::fixture::Step;
 use model_types::line::Line;
 use model_types::line::Op;
 use model_types::memory::Memory;
+use next::Next;
+use next::changed;
+use next::granted;
+use next::measured;
+use next::stored;
 use precommit::precommit;
 use revoke::revoke;
 use start::start;
@@ -60,7 +62,7 @@ fn any_call(op: Op, slot: u32, n: u32, memory: Memory, disk: &mut [u32], list: &
 }
 
 // The call of a line, on the words that are lent. The list keeps what an allocate wrote.
-pub(crate) fn call(line: Line, fixture: Fixture) -> Step
+pub fn call(line: Line, fixture: Fixture) -> Step
     requires { ⌜ Sized fixture ⌝ }
     ensures { λ r. ⌜ Sized (r .fixture) ⌝ }
 {

@@ -2,9 +2,9 @@
 use mathlib.Core.Path.{sym}
 use lib.Seq.{length-take-le}
 use borrow.Author.Needs.{needs}
 use Rattle.inspect_state.proofs.Laws.Shape.{Parts, parts}
-use Rattle.inspect_state.proofs.alter.grant_extent.Statement.{statement}
-use Rattle.inspect_state.proofs.alter.grant_extent.Tie as tie
+use Rattle.inspect_further.proofs.grant_extent.Statement.{statement}
+use Rattle.inspect_further.proofs.grant_extent.Tie as tie
 
 fixture-parts : (c : tie.After-list) → Parts (c .before .args .fixture)
 fixture-parts c = parts _ (c .before .good .0) (c .before .pre)

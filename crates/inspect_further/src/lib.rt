@@ -1,72 +1,27 @@
 // What a further line does. Out of range it alters nothing.
 ghost use Rattle.inspect_state.specs.Sized.{Sized};
-use crate::asked::Further;
-use crate::damage::block_count;
-use crate::damage::com_word;
-use crate::damage::pending_work;
-use crate::damage::sam_word;
-use crate::damage::searched_first;
-use crate::damage::slot_drawn;
-use crate::damage::slot_reservation;
-use crate::damage::slot_state;
-use crate::damage::tam_word;
-use crate::fixture::Fixture;
-use crate::fixture::MAX_LENGTH;
-use crate::fixture::MAX_PLACES;
-use crate::fixture::Step;
 use allocate_extent::allocate_extent;
 use commit_cost::commit_cost;
+use further_line::asked::Further;
+use further_line::asked::Overwrite;
+use inspect_memory::overwrite;
+use inspect_state::fixture::Fixture;
+use inspect_state::fixture::Step;
+use inspect_state::lent::disk_length;
+use inspect_state::lent::disk_word;
+use inspect_state::lent::list_places;
 use reserve::reserve;
 
-// Word I of the disk becomes V.
-fn disk_word(mut fixture: Fixture, index: u32, word: u32) -> Step
+// A part of the memory overwritten.
+fn memory_part(fixture: Fixture, part: Overwrite) -> Step
     requires { ⌜ Sized fixture ⌝ }
     ensures { λ r. ⌜ Sized (r .fixture) ⌝ }
 {
-    let i = index as usize;
-    if i < fixture.length {
-        fixture.disk[i] = word;
-        return fixture.done();
+    let written = overwrite(part, fixture.memory);
+    if written.in_range {
+        return fixture.with_memory(written.memory).done();
     }
     fixture.malformed()
-}
-
-// Puts zeros from an index on.
-fn clear(words: &mut [u32], from: usize) {
-    let mut i = from;
-    while i < words.len() {
-        words[i] = 0;
-        i += 1;
-    }
-}
-
-// The disk becomes N words long; words added are 0.
-fn disk_length(mut fixture: Fixture, words: u32) -> Step
-    requires { ⌜ Sized fixture ⌝ }
-    ensures { λ r. ⌜ Sized (r .fixture) ⌝ }
-{
-    let length = words as usize;
-    if MAX_LENGTH < length {
-        return fixture.malformed();
-    }
-    let mut disk = fixture.disk;
-    clear(&mut disk, fixture.length);
-    fixture.disk = disk;
-    fixture.length = length;
-    fixture.done()
-}
-
-// The list lent from now on is its first N places.
-fn list_places(mut fixture: Fixture, number: u32) -> Step
-    requires { ⌜ Sized fixture ⌝ }
-    ensures { λ r. ⌜ Sized (r .fixture) ⌝ }
-{
-    let places = number as usize;
-    if MAX_PLACES < places {
-        return fixture.malformed();
-    }
-    fixture.places = places;
-    fixture.done()
 }
 
 // The call commit cost. The memory that it gives back is the same.
@@ -123,20 +78,7 @@ pub fn alter(line: Further, fixture: Fixture) -> Step
     match line {
         Further::Disk { index, word } => disk_word(fixture, index, word),
         Further::Length { words } => disk_length(fixture, words),
-        Further::Blocks { blocks } => block_count(fixture, blocks),
-        Further::Cursor { block } => searched_first(fixture, block),
-        Further::Sam { index, word } => sam_word(fixture, index, word),
-        Further::Com { index, word } => com_word(fixture, index, word),
-        Further::Tam { slot, index, word } => tam_word(fixture, slot, index, word),
-        Further::State { slot, code } => slot_state(fixture, slot, code),
-        Further::Reservation { slot, blocks } => slot_reservation(fixture, slot, blocks),
-        Further::Drawn { slot, blocks } => slot_drawn(fixture, slot, blocks),
-        Further::Pending {
-            kind,
-            slot,
-            done,
-            due,
-        } => pending_work(fixture, kind, slot, done, due),
+        Further::Memory(part) => memory_part(fixture, part),
         Further::List { places } => list_places(fixture, places),
         Further::Cost { slot, count } => ask_cost(fixture, slot, count),
         Further::Extent { slot, count, near } => grant_extent(fixture, slot, count, near),

@@ -3,8 +3,8 @@ use mathlib.Core.Path.{sym}
 use lib.Seq.{length-take-le}
 use Rattle.inspect_state.proofs.Laws.Shape.{Parts, parts}
 use borrow.Author.Needs.{needs}
-use Rattle.inspect_run.proofs.call.call.Statement.{statement}
-use Rattle.inspect_run.proofs.call.call.Tie as tie
+use Rattle.inspect_call.proofs.call.Statement.{statement}
+use Rattle.inspect_call.proofs.call.Tie as tie
 
 fixture-parts : (c : tie.After-list) → Parts (c .before .before .args .fixture)
 fixture-parts c = let start = c .before .before in parts _ (start .good .1 .0) (start .pre)

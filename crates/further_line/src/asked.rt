@@ -1,14 +1,7 @@
 // What a further line asks for (docs/TEST-LINES.md).
 
-// A further line. Its numbers may be out of range.
-pub enum Further {
-    Disk {
-        index: u32,
-        word: u32,
-    },
-    Length {
-        words: u32,
-    },
+// A part of the memory, and what it becomes.
+pub enum Overwrite {
     Blocks {
         blocks: u32,
     },
@@ -46,22 +39,17 @@ pub enum Further {
         done: u32,
         due: u32,
     },
-    List {
-        places: u32,
-    },
-    Cost {
-        slot: u32,
-        count: u32,
-    },
-    Extent {
-        slot: u32,
-        count: u32,
-        near: u32,
-    },
-    Reserve {
-        slot: u32,
-        blocks: u32,
-    },
+}
+
+// A further line. Its numbers may be out of range.
+pub enum Further {
+    Disk { index: u32, word: u32 },
+    Length { words: u32 },
+    Memory(Overwrite),
+    List { places: u32 },
+    Cost { slot: u32, count: u32 },
+    Extent { slot: u32, count: u32, near: u32 },
+    Reserve { slot: u32, blocks: u32 },
     Show,
     Malformed,
 }

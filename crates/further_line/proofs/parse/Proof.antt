@@ -2,8 +2,8 @@
 use mathlib.Core.Path.{sym}
 use lib.Seq.{length-take-le}
 use borrow.Author.Needs.{needs}
-use Rattle.inspect_state.proofs.further.parse.Statement.{statement}
-use Rattle.inspect_state.proofs.further.parse.Tie as tie
+use Rattle.further_line.proofs.parse.Statement.{statement}
+use Rattle.further_line.proofs.parse.Tie as tie
 
 find-requires : tie.Need-find-requires
 find-requires c κs = search needs

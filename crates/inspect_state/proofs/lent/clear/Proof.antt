@@ -3,8 +3,8 @@ use Prim.Native.Nat.{_-_}
 use mathlib.Core.Path.{_≡_}
 use lib.ListN.{length}
 use borrow.Author.Needs.{needs}
-use Rattle.inspect_state.proofs.alter.clear.Statement.{statement}
-use Rattle.inspect_state.proofs.alter.clear.Tie as tie
+use Rattle.inspect_state.proofs.lent.clear.Statement.{statement}
+use Rattle.inspect_state.proofs.lent.clear.Tie as tie
 
 abbrev Inv-loop : tie.InvT-loop
 Inv-loop words₀ from i₀ words i = length words ≡ length words₀

@@ -2,7 +2,7 @@
 ghost use mathlib.Core.Path.{_≡_};
 ghost use Prim.Native.Nat.{_+_, _≤_, _<_};
 ghost use lib.ListN.{length};
-ghost use Rattle.inspect_state.specs.Onward.{Onward, tooLarge};
+ghost use Rattle.further_line.specs.Onward.{Onward, tooLarge};
 
 // The most digits of a number.
 const MAX_DIGITS: usize = 10;

@@ -1,9 +1,13 @@
-// The form of a further line: a word and its numbers, one space between them (docs/TEST-LINES.md).
-use crate::asked::Further;
-use crate::numbers::Numbers;
-use crate::numbers::numbers_from;
+// A further line of `inspect` taken apart: a word and its numbers, one space between them (docs/TEST-LINES.md).
+pub mod asked;
+mod numbers;
+
+use asked::Further;
+use asked::Overwrite;
 use bytes::scan::find;
 use check::same;
+use numbers::Numbers;
+use numbers::numbers_from;
 
 // A word with no number.
 fn zero(name: &[u8]) -> Further {
@@ -19,10 +23,10 @@ fn one(name: &[u8], number: u32) -> Further {
         return Further::Length { words: number };
     }
     if same(name, b"blocks") {
-        return Further::Blocks { blocks: number };
+        return Further::Memory(Overwrite::Blocks { blocks: number });
     }
     if same(name, b"cursor") {
-        return Further::Cursor { block: number };
+        return Further::Memory(Overwrite::Cursor { block: number });
     }
     if same(name, b"list") {
         return Further::List { places: number };
@@ -33,19 +37,19 @@ fn one(name: &[u8], number: u32) -> Further {
 // A word with a slot and one number more.
 fn slot_and(name: &[u8], slot: u32, number: u32) -> Further {
     if same(name, b"state") {
-        return Further::State { slot, code: number };
+        return Further::Memory(Overwrite::State { slot, code: number });
     }
     if same(name, b"reservation") {
-        return Further::Reservation {
+        return Further::Memory(Overwrite::Reservation {
             slot,
             blocks: number,
-        };
+        });
     }
     if same(name, b"drawn") {
-        return Further::Drawn {
+        return Further::Memory(Overwrite::Drawn {
             slot,
             blocks: number,
-        };
+        });
     }
     if same(name, b"cost") {
         return Further::Cost {
@@ -71,16 +75,16 @@ fn two(name: &[u8], first: u32, second: u32) -> Further {
         };
     }
     if same(name, b"sam") {
-        return Further::Sam {
+        return Further::Memory(Overwrite::Sam {
             index: first,
             word: second,
-        };
+        });
     }
     if same(name, b"com") {
-        return Further::Com {
+        return Further::Memory(Overwrite::Com {
             index: first,
             word: second,
-        };
+        });
     }
     slot_and(name, first, second)
 }
@@ -88,11 +92,11 @@ fn two(name: &[u8], first: u32, second: u32) -> Further {
 // A word with three numbers.
 fn three(name: &[u8], slot: u32, second: u32, third: u32) -> Further {
     if same(name, b"tam") {
-        return Further::Tam {
+        return Further::Memory(Overwrite::Tam {
             slot,
             index: second,
             word: third,
-        };
+        });
     }
     if same(name, b"extent") {
         return Further::Extent {
@@ -107,12 +111,12 @@ fn three(name: &[u8], slot: u32, second: u32, third: u32) -> Further {
 // A word with four numbers.
 fn four(name: &[u8], kind: u32, slot: u32, done: u32, due: u32) -> Further {
     if same(name, b"pending") {
-        return Further::Pending {
+        return Further::Memory(Overwrite::Pending {
             kind,
             slot,
             done,
             due,
-        };
+        });
     }
     Further::Malformed
 }

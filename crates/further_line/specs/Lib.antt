@@ -1,0 +1,2 @@
+-- Numbers in a line.
+pub mod Onward
