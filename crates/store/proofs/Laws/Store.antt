@@ -4,7 +4,7 @@ use mathlib.Core.Path.{_≡_, refl, sym, ap, _∙_}
 use mathlib.Core.Bool.{Bool, true, false, not, cond, false≢true}
 use mathlib.Core.Option.{Option, none}
 use mathlib.Core.List.{List, [], _∷_}
-use lib.ListN.{length, getD, take, drop}
+use lib.ListN.{length, getD, set, take, drop}
 use lib.Dec.{eqb}
 use borrow.Author.Tests.{lt-ltb}
 use Rattle.bitmap.specs.Bits.{IsBitmap}
@@ -14,12 +14,13 @@ use Rattle.model_types.specs.declared.error.Error.{Error}
 use Rattle.model_types.specs.declared.error.Error.the-variants.{MemoryInvalid, DiskLength, DiskMismatch, NothingPending}
 use Rattle.model_types.specs.declared.answer.StoresAnswer.{StoresAnswer}
 use Rattle.model_types.specs.declared.memory.Slot.{Slot}
+use Rattle.model_types.specs.declared.memory.Reserve.{Reserve}
 use Rattle.model_types.specs.declared.memory.Pending.{Pending}
 use Rattle.model_types.specs.declared.memory.Pending.the-variants.{Nothing, Commit, Recovery}
 use Rattle.model_types.specs.declared.memory.Memory.{Memory}
 use Rattle.model_types.specs.Answers.{due}
 use Rattle.model.specs.First.{Cause, first, _⇒_}
-use Rattle.model_types.specs.Memory.{slotAt, reserveAt, idleSlot, isActive, withSam, withSlots, withReserve, withPending}
+use Rattle.model_types.specs.Memory.{slotAt, reserveAt, idleSlot, noReserve, isActive, withSam, withSlots, withReserve, withReserves, withPending}
 use Rattle.model.specs.Reserves.{usedUp}
 use Rattle.model.specs.Stores.{Store, writes, changes, commitStores}
 use Rattle.model.specs.Commit.{committedSam, entriesOf}
@@ -47,6 +48,15 @@ use Rattle.store.proofs.Laws.PendingWork.{commit-due-is, in-recovery}
 -- the slot of a pending commit; another where there is none
 abbrev pub owner : Memory → Slot
 owner memory = getD (memory .slots) (ownerOf (memory .pending)) idleSlot
+
+-- the memory with these parts put back
+abbrev pub put : Memory → Bitmap → List Slot → List Reserve → Pending → Memory
+put memory sam slots reserves pending = withPending (withReserves (withSlots (withSam memory sam) slots) reserves) pending
+
+-- those that it had
+pub put-same : {sam : Bitmap} {slots : List Slot} {reserves : List Reserve} (memory : Memory) (pending : Pending)
+    → sam ≡ memory .sam → slots ≡ memory .slots → reserves ≡ memory .reserves → put memory sam slots reserves pending ≡ withPending memory pending
+put-same memory pending sam-is slots-are reserves-are = rw (sam-is, slots-are, reserves-are)
 
 module _ (memory : Memory) (shape : Shaped memory) (v : valid memory ≡ true) where
   parts : ValidParts memory
@@ -122,7 +132,7 @@ module _ (memory : Memory) (shape : Shaped memory) (v : valid memory ≡ true) w
 
   -- ---- the memory
 
-  pub ended-commit : endsCommit (memory .pending) ≡ true
+  committed-end : endsCommit (memory .pending) ≡ true
       → withPending
       (withReserve
       (withSlots
@@ -133,7 +143,7 @@ module _ (memory : Memory) (shape : Shaped memory) (v : valid memory ≡ true) w
       (pendingAfter (memory .pending))
       ≡ advanced memory (memory .pending)
   unfolding endsCommit pendingAfter advanced finished storesDone storesDue ownerOf slotIndex slotInRange
-  ended-commit = go (memory .pending) refl
+  committed-end = go (memory .pending) refl
     where
       go : (p : Pending) → memory .pending ≡ p → endsCommit p ≡ true
           → withPending
@@ -150,9 +160,9 @@ module _ (memory : Memory) (shape : Shaped memory) (v : valid memory ≡ true) w
           rw (t, lt-ltb s slotCount (below s done due e), owner-is s done due e) (committed-parts memory s shape parts (active s done due e))
       go (Recovery done due) e t = absurd (false≢true t)
 
-  pub no-commit-ended : endsCommit (memory .pending) ≡ false → withPending memory (pendingAfter (memory .pending)) ≡ advanced memory (memory .pending)
+  other-end : endsCommit (memory .pending) ≡ false → withPending memory (pendingAfter (memory .pending)) ≡ advanced memory (memory .pending)
   unfolding endsCommit pendingAfter advanced finished storesDone storesDue oneMoreDone
-  no-commit-ended = go (memory .pending)
+  other-end = go (memory .pending)
     where
       either : (t : Bool) (p : Pending) → withPending memory (cond t Nothing p) ≡ cond t (withPending memory Nothing) (withPending memory p)
       either true p = refl
@@ -162,6 +172,22 @@ module _ (memory : Memory) (shape : Shaped memory) (v : valid memory ≡ true) w
       go Nothing t = refl
       go (Commit s done due) t = rw t
       go (Recovery done due) t = either (eqb (done + 1) due) (Recovery (done + 1) due)
+
+  -- with a commit's last store: the slot that was read is the commit's
+  pub ended-commit : {i : ℕ} {own : Slot} {sam : Bitmap} {slots : List Slot} {reserves : List Reserve} → endsCommit (memory .pending) ≡ true
+      → i ≡ ownerOf (memory .pending)
+      → own ≡ owner memory
+      → sam ≡ own .tam
+      → slots ≡ endedSlots (memory .sam .words) (own .tam .words) (memory .slots) i
+      → reserves ≡ set (memory .reserves) i (usedUp (getD (memory .reserves) i noReserve))
+      → put memory sam slots reserves (pendingAfter (memory .pending)) ≡ advanced memory (memory .pending)
+  ended-commit t at own-is sam-is slots-are reserves-are = rw (sam-is, slots-are, reserves-are, own-is, at) (committed-end t)
+
+  -- with any other store they stay
+  pub other-store : {sam : Bitmap} {slots : List Slot} {reserves : List Reserve} → endsCommit (memory .pending) ≡ false
+      → sam ≡ memory .sam → slots ≡ memory .slots → reserves ≡ memory .reserves
+      → put memory sam slots reserves (pendingAfter (memory .pending)) ≡ advanced memory (memory .pending)
+  other-store t sam-is slots-are reserves-are = put-same memory _ sam-is slots-are reserves-are ∙ other-end t
 
 -- ---- the verdict
 

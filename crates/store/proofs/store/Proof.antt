@@ -1,21 +1,14 @@
 -- The causes decide; accepted, disk and memory are the definition's.
-use Prim.Native.Nat.{ℕ}
-use mathlib.Core.Path.{_≡_, sym, ap, ap₂, _∙_}
+use mathlib.Core.Path.{_≡_, sym, ap, _∙_}
 use mathlib.Core.Logic.{⊎-elim}
 use mathlib.Core.Option.{Option}
-use mathlib.Core.List.{List}
-use lib.ListN.{length, getD, set}
+use lib.ListN.{length, getD}
 use denote.Ref.{now}
-use Rattle.bitmap.specs.declared.Bitmap.{Bitmap}
 use Rattle.model_types.specs.declared.error.Error.{Error}
 use Rattle.model_types.specs.declared.answer.StoresAnswer.{StoresAnswer}
 use Rattle.model_types.specs.declared.memory.Slot.{Slot}
-use Rattle.model_types.specs.declared.memory.Reserve.{Reserve}
-use Rattle.model_types.specs.declared.memory.Pending.{Pending}
-use Rattle.model_types.specs.declared.memory.Memory.{Memory}
 use Rattle.model.specs.First.{first}
-use Rattle.model_types.specs.Memory.{idleSlot, noReserve, withSam, withSlots, withReserves, withPending}
-use Rattle.model.specs.Reserves.{usedUp}
+use Rattle.model_types.specs.Memory.{idleSlot}
 use Rattle.model_types.specs.Answers.{due}
 use Rattle.model.specs.Disk.{nextDisk}
 use Rattle.model.specs.Calls.Storing.{storeError, advanced, nextStored, storeAnswer, storeMemory, storeDisk}
@@ -24,10 +17,9 @@ use Rattle.model.proofs.Laws.Accepted.{StoreAccepted, store-accepted}
 use Rattle.verdicts.specs.Verdicts.{verdict}
 use Rattle.verdicts.proofs.Laws.Verdicts.{refused-stores}
 use Rattle.verdicts.proofs.Laws.Frame.{Judged, owner-read, tam-read, none-held, error-is, leaves-new, leaves-old}
-use Rattle.ending.specs.Ended.{endedSlots}
-use Rattle.store.specs.Progress.{StoreLeft, pendingAfter}
+use Rattle.store.specs.Progress.{StoreLeft}
 use Rattle.model.specs.CauseLists.{storeCauses}
-use Rattle.store.proofs.Laws.Store.{owner, fits, can-store, stored-is, ended-commit, no-commit-ended, store-verdict, accepted-stores}
+use Rattle.store.proofs.Laws.Store.{owner, put, put-same, fits, can-store, stored-is, ended-commit, other-store, store-verdict, accepted-stores}
 use borrow.Author.Needs.{needs}
 use Rattle.store.proofs.store.Statement.{statement}
 use Rattle.store.proofs.store.Tie as tie
@@ -37,11 +29,17 @@ use Rattle.store.proofs.store.Tie as tie
 abbrev begun : tie.After-owner → tie.Start
 begun c = c .before .before .before .before .before .before
 
+abbrev lent : tie.After-valid-arg2 → tie.After-owner
+lent c = c .before .before .before .before .before
+
 abbrev owned : tie.After-valid → tie.After-owner
-owned c = c .before .before .before .before .before .before
+owned c = lent (c .before)
+
+abbrev shown : tie.After-judge-arg3 → tie.After-valid
+shown c = c .before .before .before .before .before
 
 abbrev tested : tie.After-judge → tie.After-valid
-tested c = c .before .before .before .before .before .before
+tested c = shown (c .before)
 
 abbrev judged : tie.After-is-accepted → tie.After-judge
 judged c = c .before .before
@@ -96,14 +94,6 @@ store-left c =
     let b = entered (c .before) in
     fits (b .args .memory) (shape-at b) (told c .is-valid) .unfinished (told c .pending)
 
--- the memory with these parts put back
-abbrev put : Memory → Bitmap → List Slot → List Reserve → Pending → Memory
-put memory sam slots reserves pending = withPending (withReserves (withSlots (withSam memory sam) slots) reserves) pending
-
-same-parts : {sam sam' : Bitmap} {slots slots' : List Slot} {reserves reserves' : List Reserve} (memory : Memory) (pending : Pending)
-    → sam ≡ sam' → slots ≡ slots' → reserves ≡ reserves' → put memory sam slots reserves pending ≡ put memory sam' slots' reserves' pending
-same-parts memory pending sam-is slots-are reserves-are = rw (sam-is, slots-are, reserves-are)
-
 -- ---- the needs
 
 owner-requires : tie.Need-owner-requires
@@ -117,13 +107,13 @@ array-copy-out-owner c = search needs
 
 valid-requires : tie.Need-valid-requires
 valid-requires c κs =
-    let at = c .before .before .before .before .before in
+    let at = lent c in
     let shape = shape-at (begun at) in
     (shape .sam, (shape .com, owner-read (begun at .args .memory) _ shape (at .owner .ensures)))
 
 judge-requires : tie.Need-judge-requires
 judge-requires c κs =
-    let sound = c .before .before .before .before .before in
+    let sound = shown c in
     let index = owned sound .owner .ensures in
     let b = begun (owned sound) in
     let shape = shape-at b in (
@@ -186,13 +176,11 @@ returns c =
     let at = c .before .before in
     let a = entered at .args in
     let shape = shape-at (entered at) in
-    let index = found at .owner .ensures in
     let error = storeError (a .memory) (now (a .disk)) in
     let new = advanced (a .memory) (a .memory .pending) in
     let disk = nextStored (a .memory) (now (a .disk)) in
     let judged = verdict-at at in
     let left = c .before .if1 in
-    let next = pendingAfter (a .memory .pending) in
     ⊎-elim
     (λ (taken, _, _, _, _, _, made, _, _, due-is, ends, branch, after, disk-is, sam-is, slots-are, reserves-are, pending-is, answer-is).
     let v = told (record { before = at; if1 = taken }) .is-valid in
@@ -201,19 +189,12 @@ returns c =
       (
         c .with-pending .ensures
             ∙ ap (put (a .memory) (left .sam) (left .slots) (left .reserves)) (pending-is ∙ after .ensures)
-            ∙ same-parts (a .memory) next sam-is slots-are reserves-are
             ∙ ⊎-elim
-            (λ (last, _, _, _, _, refreshed, _, used, sam-is, slots-are, reserves-are).
-            same-parts (a .memory) next
-            (sam-is ∙ ap (λ (slot : Slot). slot .tam) (owner-at at _))
-            (slots-are
-            ∙ refreshed .ensures
-            ∙ ap₂ (λ (slot : Slot) (i : ℕ). endedSlots (a .memory .sam .words) (slot .tam .words) (a .memory .slots) i) (owner-at at _) (index .is))
-            (reserves-are ∙ used .ensures ∙ ap (λ (i : ℕ). set (a .memory .reserves) i (usedUp (getD (a .memory .reserves) i noReserve))) (index .is))
-            ∙ ended-commit (a .memory) shape v (flag ∙ last .taken))
-            (λ (goes-on, sam-is, slots-are, reserves-are).
-            same-parts (a .memory) next sam-is slots-are reserves-are
-            ∙ no-commit-ended (a .memory) shape v (flag ∙ goes-on .left))
+            (λ (last, _, _, _, _, refreshed, _, used, sam-put, slots-put, reserves-put).
+            ended-commit (a .memory) shape v (flag ∙ last .taken) (found at .owner .ensures .is) (owner-at at _)
+            (sam-is ∙ sam-put) (slots-are ∙ slots-put ∙ refreshed .ensures) (reserves-are ∙ reserves-put ∙ used .ensures))
+            (λ (goes-on, sam-put, slots-put, reserves-put).
+            other-store (a .memory) shape v (flag ∙ goes-on .left) (sam-is ∙ sam-put) (slots-are ∙ slots-put) (reserves-are ∙ reserves-put))
             (branch .came)
             ∙ leaves-new judged new (a .memory) (taken .taken),
         disk-is
@@ -228,7 +209,7 @@ returns c =
       (
         c .with-pending .ensures
             ∙ ap (put (a .memory) (left .sam) (left .slots) (left .reserves)) pending-is
-            ∙ same-parts (a .memory) (a .memory .pending) sam-is slots-are reserves-are
+            ∙ put-same (a .memory) (a .memory .pending) sam-is slots-are reserves-are
             ∙ leaves-old judged new (a .memory) (refused .left),
         disk-is ∙ leaves-old judged disk (now (a .disk)) (refused .left),
       ),
