@@ -57,55 +57,31 @@ fn ready(disk: &[u32], op: u8) -> Memory {
     two_active(opened.memory)
 }
 
-// Makes the call of this number in a script of timing twice, and returns a number made of both answers, since the compiler
-// leaves out what nobody looks at. The disk has 64 blocks with block 0 taken, and for stores a log of one entry.
-pub(crate) fn make_twice(op: u8, slot: u8, number: u8) -> u32 {
-    let slot = wide(slot);
-    let n = wide(number);
-    let mut list = [0u32; 64];
-    let mut disk = [0u32; 386];
-    disk[0] = 64;
-    disk[1] = log_length(op);
-    disk[2] = 1;
-    disk[131] = 3;
-    let memory = ready(&disk, op);
+// Format and open.
+fn make_volume(op: u8, disk: &mut [u32], n: u32) -> u32 {
     match op {
         1 => {
-            let first = format(&mut disk, n);
-            let second = format(&mut disk, n);
+            let first = format(disk, n);
+            let second = format(disk, n);
             first.number() | second.number()
         }
         2 => {
-            let first = open(&disk);
-            let second = open(&disk);
+            let first = open(disk);
+            let second = open(disk);
             let begun = first.answer;
             let answer = second.answer;
             begun.number() | answer.number()
         }
+        _ => 0,
+    }
+}
+
+// What begins and commits a transaction.
+fn make_transaction(op: u8, memory: Memory, slot: u32) -> u32 {
+    match op {
         3 => {
             let first = start(memory, slot);
             let second = start(first.memory, slot);
-            let begun = first.answer;
-            let answer = second.answer;
-            begun.number() | answer.number()
-        }
-        4 => {
-            let first = allocate(memory, slot, n, &mut list);
-            let second = allocate(first.memory, slot, n, &mut list);
-            let begun = first.answer;
-            let answer = second.answer;
-            begun.number() | answer.number()
-        }
-        5 => {
-            let first = allocate_extent(memory, slot, n, n, &mut list);
-            let second = allocate_extent(first.memory, slot, n, n, &mut list);
-            let begun = first.answer;
-            let answer = second.answer;
-            begun.number() | answer.number()
-        }
-        6 => {
-            let first = deallocate(memory, slot, n);
-            let second = deallocate(first.memory, slot, n);
             let begun = first.answer;
             let answer = second.answer;
             begun.number() | answer.number()
@@ -124,6 +100,13 @@ pub(crate) fn make_twice(op: u8, slot: u8, number: u8) -> u32 {
             let answer = second.answer;
             begun.number() | answer.number()
         }
+        _ => 0,
+    }
+}
+
+// What rolls one back.
+fn make_rollback(op: u8, memory: Memory, slot: u32) -> u32 {
+    match op {
         9 => {
             let first = drop(memory, slot);
             let second = drop(first.memory, slot);
@@ -138,9 +121,44 @@ pub(crate) fn make_twice(op: u8, slot: u8, number: u8) -> u32 {
             let answer = second.answer;
             begun.number() | answer.number()
         }
+        _ => 0,
+    }
+}
+
+// What takes and frees blocks.
+fn make_change(op: u8, memory: Memory, slot: u32, n: u32, list: &mut [u32]) -> u32 {
+    match op {
+        4 => {
+            let first = allocate(memory, slot, n, list);
+            let second = allocate(first.memory, slot, n, list);
+            let begun = first.answer;
+            let answer = second.answer;
+            begun.number() | answer.number()
+        }
+        5 => {
+            let first = allocate_extent(memory, slot, n, n, list);
+            let second = allocate_extent(first.memory, slot, n, n, list);
+            let begun = first.answer;
+            let answer = second.answer;
+            begun.number() | answer.number()
+        }
+        6 => {
+            let first = deallocate(memory, slot, n);
+            let second = deallocate(first.memory, slot, n);
+            let begun = first.answer;
+            let answer = second.answer;
+            begun.number() | answer.number()
+        }
+        _ => 0,
+    }
+}
+
+// The others.
+fn make_other(op: u8, memory: Memory, disk: &mut [u32], slot: u32, n: u32) -> u32 {
+    match op {
         11 => {
-            let first = store(memory, &mut disk);
-            let second = store(first.memory, &mut disk);
+            let first = store(memory, disk);
+            let second = store(first.memory, disk);
             let begun = first.answer;
             let answer = second.answer;
             begun.number() | answer.number()
@@ -167,5 +185,26 @@ pub(crate) fn make_twice(op: u8, slot: u8, number: u8) -> u32 {
             begun.number() | answer.number()
         }
         _ => 0,
+    }
+}
+
+// Makes the call of this number in a script of timing twice, and returns a number made of both answers, since the compiler
+// leaves out what nobody looks at. The disk has 64 blocks with block 0 taken, and for stores a log of one entry.
+pub(crate) fn make_twice(op: u8, slot: u8, number: u8) -> u32 {
+    let slot = wide(slot);
+    let n = wide(number);
+    let mut list = [0u32; 64];
+    let mut disk = [0u32; 386];
+    disk[0] = 64;
+    disk[1] = log_length(op);
+    disk[2] = 1;
+    disk[131] = 3;
+    let memory = ready(&disk, op);
+    match op {
+        1 | 2 => make_volume(op, &mut disk, n),
+        3 | 7 | 8 => make_transaction(op, memory, slot),
+        9 | 10 => make_rollback(op, memory, slot),
+        4 | 5 | 6 => make_change(op, memory, slot, n, &mut list),
+        _ => make_other(op, memory, &mut disk, slot, n),
     }
 }
