@@ -2,7 +2,7 @@
 # make inspect [FILE=lines]   the same with the test program, which takes test lines too (docs/TEST-LINES.md)
 # make test                   everything: the second allocator's tests, the stored tests it makes, then the prover's gate
 # make soak [SEEDS=n]         n more seeds of random histories and damage through both allocators; the first difference is shown
-# make speed                  both timed on the same histories and on each kind of call; fails if a goal of docs/SPEED.md is missed
+# make speed                  what a client pays, by kind of call, beside the second allocator; fails if a goal of docs/SPEED.md is missed
 # make clean                  removes what these made
 
 FILE ?= bench/example.txt
@@ -11,7 +11,7 @@ JOBS ?= 6
 SEEDS ?= 20
 REFERENCE := reference/target/release/reference
 
-.PHONY: bench inspect program test-program reference reference-test stored-tests test soak speed clean
+.PHONY: bench inspect program test-program timed-programs reference reference-test stored-tests test soak speed clean
 
 bench: program
 	@target/bin/bench < $(FILE)
@@ -24,6 +24,10 @@ program:
 
 test-program:
 	@bench/prove inspect
+
+timed-programs: program
+	@bench/prove timing
+	@bench/prove frames
 
 reference:
 	@cargo build --release --quiet --offline --manifest-path reference/Cargo.toml
@@ -42,7 +46,7 @@ test: reference-test stored-tests
 soak: program test-program reference
 	@bench/soak $(SEEDS)
 
-speed: program test-program reference
+speed: timed-programs reference
 	@python3 bench/speed
 
 clean:

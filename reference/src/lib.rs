@@ -30,6 +30,7 @@ pub mod line_reader;
 pub mod program;
 pub mod sweep;
 pub mod test_line;
+pub mod timing;
 
 pub use bitmap::{majority, Bitmap};
 pub use block_set::BlockSet;

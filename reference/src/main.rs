@@ -3,7 +3,7 @@
 use reference::damage::Damage;
 use reference::extents::Extents;
 use reference::history::{with_cost, with_status, History, Shape};
-use reference::{program, sweep};
+use reference::{program, sweep, timing};
 use std::io::{self, BufWriter, ErrorKind, Write};
 use std::process::ExitCode;
 use std::str::FromStr;
@@ -11,6 +11,7 @@ use std::str::FromStr;
 const USAGE: &str = "usage: reference bench
        reference inspect
        reference sweep
+       reference timing
        reference history SEED LINES BLOCKS [--malformed] [--status] [--cost] [--extent] [--reserve]
        reference damage SEED LINES
        reference extents SEED LINES
@@ -26,6 +27,7 @@ fn main() -> ExitCode {
         ["bench"] => program::run(io::stdin().lock(), io::stdout().lock()),
         ["inspect"] => program::inspect(io::stdin().lock(), io::stdout().lock()),
         ["sweep"] => sweep::run(io::stdout().lock()),
+        ["timing"] => timing::run(io::stdin().lock(), io::stdout().lock()),
         ["history", seed, lines, blocks, options @ ..] => {
             print_history(seed, lines, blocks, options)
         }

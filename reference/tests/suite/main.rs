@@ -55,6 +55,7 @@ mod status_line;
 mod status_observer;
 mod sweep;
 mod test_lines;
+mod timing;
 mod transactions;
 mod valid_memory;
 mod validity;
