@@ -1,14 +1,12 @@
 -- The slot's causes decide; accepted, the slot is the definition's.
-use mathlib.Core.List.{List}
-use lib.ListN.{set}
-use mathlib.Core.Path.{ap, ap₂, _∙_}
+use mathlib.Core.Path.{ap, _∙_}
 use mathlib.Core.Logic.{⊎-elim}
 use mathlib.Core.Option.{Option}
 use Rattle.model_types.specs.declared.error.Error.{Error}
 use Rattle.model_types.specs.declared.memory.SlotState.the-variants.{Precommitted}
 use Rattle.model_types.specs.declared.memory.Slot.{Slot}
 use Rattle.model_types.specs.Answers.{due}
-use Rattle.model_types.specs.Memory.{withSlots, withState}
+use Rattle.model_types.specs.Memory.{withState}
 use Rattle.model.specs.Calls.Precommit.{precommitError, precommitting, precommitAnswer, precommitMemory}
 use Rattle.model_types.proofs.Laws.Shape.{Shaped, shaped}
 use Rattle.model.proofs.Laws.Accepted.{precommit-accepted}

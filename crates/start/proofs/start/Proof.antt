@@ -1,11 +1,7 @@
 -- The slot's causes decide; accepted, the slot is the definition's.
-use mathlib.Core.List.{List}
-use lib.ListN.{set}
-use mathlib.Core.Path.{ap, ap₂, _∙_}
+use mathlib.Core.Path.{ap, _∙_}
 use mathlib.Core.Logic.{⊎-elim}
-use Rattle.model_types.specs.declared.memory.Slot.{Slot}
 use Rattle.model_types.specs.Answers.{done}
-use Rattle.model_types.specs.Memory.{withSlots}
 use Rattle.model.specs.Calls.Start.{startError, started, startAnswer, startMemory}
 use Rattle.model_types.proofs.Laws.Shape.{Shaped, shaped}
 use Rattle.model.proofs.Laws.Accepted.{start-accepted}

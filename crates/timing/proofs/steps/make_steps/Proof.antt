@@ -267,9 +267,11 @@ module _ (c : tie.At-match-came Inv-loop μ-loop) where
       (⊎-elim  -- start
       (λ (_, _, _, _, disk, list, _, _, _, _). kept disk list)
       (⊎-elim  -- allocate
-      (λ (_, _, called, _, _, _, _, disk, list, _, _, _, _). (ap length disk ∙ now .loop .inv .1, ap length list ∙ called .kept .1 .1 .1 .0 ∙ now .loop .inv .2))
+      (λ (_, _, called, _, _, _, _, disk, list, _, _, _, _).
+      let (_, (_, (_, (same-list, _)))) = called .kept in (ap length disk ∙ now .loop .inv .1, ap length list ∙ same-list ∙ now .loop .inv .2))
       (⊎-elim  -- allocate extent
-      (λ (_, _, called, _, _, _, _, disk, list, _, _, _, _). (ap length disk ∙ now .loop .inv .1, ap length list ∙ called .kept .1 .1 .1 .1 .0 ∙ now .loop .inv .2))
+      (λ (_, _, called, _, _, _, _, disk, list, _, _, _, _).
+      let (_, (_, (_, (_, (same-list, _))))) = called .kept in (ap length disk ∙ now .loop .inv .1, ap length list ∙ same-list ∙ now .loop .inv .2))
       (⊎-elim  -- deallocate
       (λ (_, _, _, _, disk, list, _, _, _, _). kept disk list)
       (⊎-elim  -- precommit
