@@ -1,9 +1,8 @@
 // Open: the memory of a volume, from its disk. The disk stays.
 ghost use mathlib.Core.Path.{_≡_};
-ghost use mathlib.Core.Option.{none};
 ghost use Prim.Native.Nat.{_≤_};
 ghost use Rattle.bitmap.specs.Sizes.{bitmapWords};
-ghost use Rattle.model.specs.Calls.Opening.{openError, recoveryPending, recoveryDue, opened, openAnswer, openMemory};
+ghost use Rattle.model.specs.Calls.Opening.{openError, recoveryPending, recoveryDue, openAnswer, openMemory};
 ghost use Rattle.verdicts.specs.Verdicts.{verdict};
 use bitmap::Bitmap;
 use disk_log::layout::BLOCKS_AT;
@@ -13,7 +12,6 @@ use disk_log::log::log_valid;
 use disk_log::replay::replay;
 use disk_log::sam::bitmap_valid;
 use model_types::answer::Stored;
-use model_types::answer::StoresAnswer;
 use model_types::error::Error;
 use model_types::memory::Memory;
 use model_types::memory::Pending;
@@ -61,30 +59,23 @@ fn recovery(entries: u32) -> Pending
     }
 }
 
-// The memory of a disk that opens: all slots idle, COM equal to SAM.
-fn opened(disk: &[u32]) -> Memory
-    requires { ⌜ openError (now disk) ≡ none ⌝ }
-    ensures { λ r. ⌜ r ≡ opened (now (disk .entry)) ⌝ }
-{
-    let sam = Bitmap {
-        words: replay(disk),
-    };
-    Memory::quiet(disk[BLOCKS_AT], sam, recovery(disk[LENGTH_AT]))
-}
-
-// Opens a volume. Refused, it gives a memory of zeros.
+// Opens a volume: its memory has all slots idle and COM equal to SAM. Refused, it gives a memory of zeros.
 pub fn open(disk: &[u32]) -> Stored
     ensures answers { λ r. ⌜ r .answer ≡ openAnswer (now (disk .entry)) ⌝ }
     ensures gives { λ r. ⌜ r .memory ≡ openMemory (now (disk .entry)) ⌝ }
 {
-    match open_verdict(disk) {
-        Verdict::Refused(error) => Stored {
-            answer: StoresAnswer::Refused(error),
-            memory: Memory::zero(),
-        },
-        Verdict::Accepted => Stored {
-            answer: StoresAnswer::Due(recovery_due(disk[LENGTH_AT])),
-            memory: opened(disk),
-        },
+    let verdict = open_verdict(disk);
+    let mut blocks = 0;
+    let mut words = [0; 128];
+    let mut entries = 0;
+    if verdict.is_accepted() {
+        blocks = disk[BLOCKS_AT];
+        words = replay(disk);
+        entries = disk[LENGTH_AT];
+    }
+    let sam = Bitmap { words };
+    Stored {
+        answer: verdict.stores(recovery_due(entries)),
+        memory: Memory::quiet(blocks, sam, recovery(entries)),
     }
 }

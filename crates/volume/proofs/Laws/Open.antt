@@ -3,23 +3,20 @@ use Prim.Native.Nat.{ℕ, zero, suc, _+_, _≤_}
 use native.Mathlib.Omega.{arith}
 use mathlib.Core.Path.{_≡_, refl, sym, ap}
 use mathlib.Core.Bool.{true, false}
-use mathlib.Core.Option.{Option, none, some}
+use mathlib.Core.Option.{none, some}
 use mathlib.Core.List.{List}
 use lib.ListN.{length}
 use borrow.Author.Tests.{eq-eqb, ne-eqb}
 use Rattle.bitmap.specs.Bits.{noBitsFrom}
-use Rattle.model_types.specs.declared.error.Error.{Error}
 use Rattle.model_types.specs.declared.error.Error.the-variants.{DiskLength, DiskBlocks, DiskBitmap, DiskLog}
 use Rattle.model_types.specs.declared.memory.Pending.the-variants.{Nothing, Recovery}
-use Rattle.model.specs.First.{first, firstOr, unlessRefused}
+use Rattle.model.specs.First.{first, firstOr}
 use Rattle.bitmap.specs.Sizes.{blocksInRange}
-use Rattle.model_types.specs.declared.answer.StoresAnswer.{StoresAnswer}
-use Rattle.model_types.specs.Memory.{zeroMemory}
 use Rattle.model_types.specs.Answers.{due}
 use Rattle.model.specs.Disk.{diskBlocks, logLength, diskBitmap, logValid}
 use Rattle.model.proofs.Laws.DiskParts.{opens-parts, log-valid}
 use Rattle.model.specs.Causes.{diskLengthWrong, diskBlocksWrong, diskBitmapWrong, diskLogWrong}
-use Rattle.model.specs.Calls.Opening.{openError, recoveryDue, recoveryPending, opened, openAnswer, openMemory}
+use Rattle.model.specs.Calls.Opening.{openError, recoveryDue, recoveryPending}
 
 -- the stores due for so many entries
 pub none-due : (p : ℕ) → p ≡ 0 → 0 ≡ recoveryDue p
@@ -63,19 +60,10 @@ module _ (disk : List ℕ) where
     unfolding openError first firstOr diskLengthWrong diskBlocksWrong diskBitmapWrong diskLogWrong
     none-holds e f = rw (eq-eqb (length disk) 386 l, r, e, f)
 
-  -- a disk that opens: its log, and its answer and memory
+  -- a disk that opens: its log
   module _ (opens : openError disk ≡ none) where
     pub log-there : logValid disk ≡ true
     log-there = log-valid disk (opens-parts disk opens .word-one) (opens-parts disk opens .entries)
 
     pub few-logged : logLength disk ≤ 128
     few-logged = omega (arith, opens-parts disk opens .few-entries, opens-parts disk opens .few-blocks)
-
-    pub accepted : (StoresAnswer.Due (recoveryDue (logLength disk)) ≡ openAnswer disk) × (opened disk ≡ openMemory disk)
-    unfolding openAnswer openMemory due unlessRefused
-    accepted = (ap (λ (e : Option Error). due e (recoveryDue (logLength disk))) (sym opens), ap (λ (e : Option Error). unlessRefused e (opened disk) zeroMemory) (sym opens))
-
-  pub refused : (error : Error) → openError disk ≡ some error → (StoresAnswer.Refused error ≡ openAnswer disk) × (zeroMemory ≡ openMemory disk)
-  unfolding openAnswer openMemory due unlessRefused
-  refused error q =
-      (ap (λ (e : Option Error). due e (recoveryDue (logLength disk))) (sym q), ap (λ (e : Option Error). unlessRefused e (opened disk) zeroMemory) (sym q))
