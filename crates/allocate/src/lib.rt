@@ -1,4 +1,6 @@
 // Allocate: the first available blocks met from the cursor on to a slot, their numbers to the first places of the list.
+#![tactic(auto)]
+
 ghost use Rattle.std.specs.Prelude.{◌≡◌};
 ghost use Rattle.model.specs.Rules.Calls.Allocate.{allocate_answer, allocate_memory, allocate_list};
 

@@ -1,5 +1,7 @@
 // Allocate extent: adjoining available blocks, as near to a named block as they are to be had, to a slot; their numbers to the first
 // places of the list.
+#![tactic(auto)]
+
 ghost use Rattle.std.specs.Prelude.{◌≡◌, true, cond};
 ghost use Rattle.bitmap.specs.Bits.{IsBitmap};
 ghost use Rattle.bitmap.specs.Blocks.{is_available};

@@ -1,4 +1,6 @@
 // The bench program's output: an answer's line printed.
+#![tactic(auto)]
+
 mod put;
 
 ghost use Rattle.std.specs.Prelude.{◌+◌, ◌≤◌, length};

@@ -1,4 +1,6 @@
 // The bench program's input: a line taken apart.
+#![tactic(auto)]
+
 mod fields;
 mod number;
 mod prefix;

@@ -6,7 +6,7 @@ ghost use Rattle.bench_line.specs.Number.{digit_at, NumberIs};
 const MAX_DIGITS: usize = 5;
 
 // A number of 1 to MAX_DIGITS digits with the index after it, or anything else.
-#[derive(Drop)]
+#[derive(Clone, Copy)]
 pub(crate) enum Number {
     Read { value: u32, next: usize },
     Malformed,

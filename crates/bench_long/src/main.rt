@@ -1,4 +1,6 @@
 // The bench program, run on a random history of 60,000 lines.
+#![tactic(auto)]
+
 fn main() {
     bench_run::main_loop();
 }

@@ -14,7 +14,7 @@ use bench_step::cut::line_end;
 use bench_step::lines::{Lines, answer_lines};
 
 // After a piece: the state, the end of what is printed, and whether more is to be read.
-#[derive(Drop)]
+#[derive(Clone, Copy)]
 pub struct Piece {
     pub run: Run,
     pub end: usize,

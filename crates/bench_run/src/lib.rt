@@ -1,6 +1,8 @@
 // The bench program of document 01: bench lines on standard input, answer lines on standard output. What a piece of input
 // does is bench_piece's; here the pieces are read, and the answers are written.
 // It is a library so that several programs can be it, each with its own stored input and output.
+#![tactic(auto)]
+
 mod reading;
 mod writing;
 
@@ -15,7 +17,7 @@ use reading::{Read, read_piece};
 use writing::{Written, write_piece};
 
 // After the last piece: the state, what was read and what was written.
-#[derive(Drop)]
+#[derive(Clone, Copy)]
 struct Progress {
     run: Run,
     read: Read,
@@ -23,7 +25,7 @@ struct Progress {
 }
 
 // What was read and written in all.
-#[derive(Drop)]
+#[derive(Clone, Copy)]
 pub struct Done {
     read: Read,
     written: Written,

@@ -4,7 +4,7 @@ ghost use Rattle.std.specs.Prelude.{◌≡◌, ◌+◌, ◌^◌, ◌≤◌, ◌<
 use libc::STDIN_FILENO;
 
 // How many bytes were read: in the last piece, and in all.
-#[derive(Drop)]
+#[derive(Clone, Copy)]
 pub(crate) struct Read {
     last: usize,
     count: u64,

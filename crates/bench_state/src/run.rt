@@ -5,7 +5,7 @@ ghost use Rattle.bench_state.specs.Begun.{begun};
 use model_types::memory::Memory;
 
 // The memory, how many bytes of a line are kept, and the next line's number.
-#[derive(Drop)]
+#[derive(Clone, Copy)]
 pub struct Run {
     pub memory: Memory,
     pub len: usize,

@@ -1,11 +1,13 @@
 // One bitmap: a bit for each block of a volume, in words of 32 bits, with the limits of a volume as its own constants and
 // functions. Its definitions and laws stand in specs/; code on its words in the crate bitops.
+#![tactic(auto)]
+
 ghost use Rattle.std.specs.Prelude.{◌≡◌, ◌≤◌};
 ghost use Rattle.bitmap.specs.Round.{wrapped};
 ghost use Rattle.bitmap.specs.Sizes.{max_blocks, words_for, blocks_in_range, count_in_range, slot_in_range, slot_index, IsSlot};
 
 // Document 01's map: block b is bit b mod 32 of word b div 32, and 1 means allocated.
-#[derive(Drop)]
+#[derive(Clone, Copy)]
 pub struct Bitmap {
     pub words: [u32; 128],
 }

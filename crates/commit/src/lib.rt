@@ -1,4 +1,6 @@
 // Commit: ends at once where it changes no word of SAM. Otherwise its stores are due, and store makes them.
+#![tactic(auto)]
+
 ghost use Rattle.std.specs.Prelude.{◌≡◌, length};
 ghost use Rattle.bitmap.specs.Bits.{IsBitmap};
 ghost use Rattle.model.specs.Rules.Stores.{changes};

@@ -1,4 +1,6 @@
 // Commit cost: the most stores that a slot's commit may need once the slot has so many blocks more. The memory stays.
+#![tactic(auto)]
+
 ghost use Rattle.std.specs.Prelude.{◌≡◌, ◌≤◌};
 ghost use Rattle.bitmap.specs.Sizes.{bitmap_words};
 ghost use Rattle.model.specs.Rules.Calls.CommitCost.{cost_for, commit_cost_answer};

@@ -1,4 +1,6 @@
 // Counts of a volume's blocks, a word at a time.
+#![tactic(auto)]
+
 ghost use Rattle.std.specs.Prelude.{◌≡◌, ◌/◌, ◌≤◌, length};
 ghost use Rattle.bitmap.specs.Sizes.{max_blocks, word_bits};
 ghost use Rattle.bitmap.specs.Bits.{IsBitmap};
@@ -9,7 +11,7 @@ use available::available::available_word;
 use bitmap::Bitmap;
 
 // Blocks counted by their bits in SAM and COM.
-#[derive(Drop)]
+#[derive(Clone, Copy)]
 pub struct Tally {
     pub allocated: u32,
     pub allocating: u32,

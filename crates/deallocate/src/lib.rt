@@ -1,4 +1,6 @@
 // Deallocate: one block given back by its slot's commit.
+#![tactic(auto)]
+
 ghost use Rattle.std.specs.Prelude.{◌≡◌};
 ghost use Rattle.model.specs.Rules.Calls.Deallocate.{deallocate_answer, deallocate_memory};
 

@@ -6,7 +6,7 @@ ghost use Rattle.model_types.specs.Pending.{stores_for};
 ghost use Rattle.disk_log.specs.Phase.{InPhase, log_length_in, checkpointed_in};
 
 // What the next store of a commit is.
-#[derive(Drop)]
+#[derive(Clone, Copy)]
 pub enum Phase {
     // A word of the log.
     Log,

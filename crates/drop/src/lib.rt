@@ -1,4 +1,6 @@
 // Drop: an open slot's transaction is rolled back.
+#![tactic(auto)]
+
 ghost use Rattle.std.specs.Prelude.{◌≡◌};
 ghost use Rattle.model.specs.Rules.Calls.Drop.{drop_answer, drop_memory};
 

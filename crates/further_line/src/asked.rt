@@ -1,7 +1,7 @@
 // What a further line asks for (docs/TEST-LINES.md).
 
 // A part of the memory, and what it becomes.
-#[derive(Drop)]
+#[derive(Clone, Copy)]
 pub enum Overwrite {
     Blocks {
         blocks: u32,
@@ -43,7 +43,7 @@ pub enum Overwrite {
 }
 
 // A further line. Its numbers may be out of range.
-#[derive(Drop)]
+#[derive(Clone, Copy)]
 pub enum Further {
     Disk { index: u32, word: u32 },
     Length { words: u32 },

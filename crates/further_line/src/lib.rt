@@ -1,4 +1,6 @@
 // A further line of `inspect` taken apart: a word and its numbers, one space between them (docs/TEST-LINES.md).
+#![tactic(auto)]
+
 pub mod asked;
 mod numbers;
 

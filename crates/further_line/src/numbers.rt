@@ -8,7 +8,7 @@ const MAX_DIGITS: usize = 10;
 const MAX_NUMBER: u64 = 4294967295;
 
 // All numbers of a line.
-#[derive(Drop)]
+#[derive(Clone, Copy)]
 pub(crate) enum Numbers {
     Zero,
     One(u32),
@@ -19,7 +19,7 @@ pub(crate) enum Numbers {
 }
 
 // A number at a place of a line, if it is in form, and the index after it.
-#[derive(Drop)]
+#[derive(Clone, Copy)]
 struct Number {
     good: bool,
     value: u32,

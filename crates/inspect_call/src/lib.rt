@@ -1,4 +1,6 @@
 // The call that a bench line asks for, on what `inspect` lends.
+#![tactic(auto)]
+
 mod next;
 
 ghost use Rattle.inspect_state.specs.Sized.{Sized};

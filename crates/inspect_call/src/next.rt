@@ -2,7 +2,7 @@
 use model_types::answer::{Changed, Granted, Measured, Stored};
 use model_types::memory::Memory;
 
-#[derive(Drop)]
+#[derive(Clone, Copy)]
 pub(crate) struct Next {
     pub memory: Memory,
     pub answer: u32,

@@ -1,4 +1,6 @@
 // What a `status` line prints behind its answer line: the counts of status.
+#![tactic(auto)]
+
 ghost use Rattle.printing.specs.Waits.{Waits};
 
 use model_types::answer::{Counts, StatusAnswer};

@@ -1,4 +1,6 @@
 // What a further line does. Out of range it alters nothing.
+#![tactic(auto)]
+
 ghost use Rattle.inspect_state.specs.Sized.{Sized};
 
 use allocate_extent::allocate_extent;

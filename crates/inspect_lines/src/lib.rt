@@ -1,4 +1,6 @@
 // The input of `inspect` cut into lines.
+#![tactic(auto)]
+
 ghost use Rattle.std.specs.Prelude.{◌≡◌, length};
 ghost use Rattle.inspect_lines.specs.Reads.{Reading, kept};
 
@@ -9,7 +11,7 @@ const KEPT: usize = 65;
 
 // Where reading stands: a place in a piece of input and the piece's end, the bytes kept of a line, whether there is a line,
 // and whether more of it is to be read.
-#[derive(Drop)]
+#[derive(Clone, Copy)]
 pub struct Reader {
     pub next: usize,
     pub end: usize,

@@ -1,4 +1,6 @@
 // A part of the memory overwritten, as further lines ask for it (docs/TEST-LINES.md).
+#![tactic(auto)]
+
 ghost use Rattle.std.specs.Prelude.{◌<◌};
 ghost use Rattle.bitmap.specs.Sizes.{bitmap_words};
 
@@ -10,7 +12,7 @@ use model_types::memory::{Memory, Pending, Reserve, Slot, SlotState};
 const LAST_KIND: u32 = 2;
 
 // The memory with a part of it overwritten; or as it was, if that is out of range.
-#[derive(Drop)]
+#[derive(Clone, Copy)]
 pub struct Overwritten {
     pub memory: Memory,
     pub in_range: bool,

@@ -1,5 +1,7 @@
 // The test program `inspect` (docs/TEST-LINES.md): bench lines, and further lines that damage what the calls are lent.
 // It is a library so that several programs can be it, each with its own stored input and output.
+#![tactic(auto)]
+
 mod line;
 
 ghost use Rattle.std.specs.Prelude.{◌≡◌, length};

@@ -13,7 +13,7 @@ use printing::place;
 use status::status;
 
 // What a line leaves: the fixture, and the end of what waits to be written.
-#[derive(Drop)]
+#[derive(Clone, Copy)]
 pub(crate) struct Printed {
     pub fixture: Fixture,
     pub at: usize,

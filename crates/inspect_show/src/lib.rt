@@ -1,4 +1,6 @@
 // What `show` prints: the fixture, words that are 0 left out of bitmaps and disk.
+#![tactic(auto)]
+
 mod slots;
 
 ghost use Rattle.printing.specs.Waits.{Waits};

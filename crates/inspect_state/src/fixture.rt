@@ -11,7 +11,7 @@ pub const MAX_LENGTH: usize = 400;
 pub const MAX_PLACES: usize = 64;
 
 // The memory, and the words of the disk and of the list: of these the first `length` and the first `places` are lent.
-#[derive(Drop)]
+#[derive(Clone, Copy)]
 pub struct Fixture {
     pub memory: Memory,
     pub disk: [u32; 400],
@@ -21,7 +21,7 @@ pub struct Fixture {
 }
 
 // What a line leaves: the fixture from then on, and the answer and value that are printed.
-#[derive(Drop)]
+#[derive(Clone, Copy)]
 pub struct Step {
     pub fixture: Fixture,
     pub answer: u32,

@@ -2,7 +2,7 @@
 ghost use Rattle.std.specs.Prelude.{◌≡◌};
 ghost use Rattle.model_types.specs.Errors.{code};
 
-#[derive(Drop)]
+#[derive(Clone, Copy)]
 pub enum Error {
     MemoryInvalid,
     DiskLength,

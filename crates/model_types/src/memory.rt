@@ -18,7 +18,7 @@ ghost use Rattle.model_types.specs.Pending.{stores_for, changed_for, is_nothing,
 use bitmap::Bitmap;
 
 // A slot (document 01: seat) is idle, open or precommitted.
-#[derive(Drop)]
+#[derive(Clone, Copy)]
 pub enum SlotState {
     Idle,
     Open,
@@ -26,7 +26,7 @@ pub enum SlotState {
 }
 
 // A transaction slot: its bitmap, TAM, and its state. An idle slot's bitmap is empty.
-#[derive(Drop)]
+#[derive(Clone, Copy)]
 pub struct Slot {
     pub tam: Bitmap,
     pub state: SlotState,
@@ -34,14 +34,14 @@ pub struct Slot {
 
 // What is set aside for a slot, its reservation (document 02: its claim), and what of it the slot's transaction has drawn. It
 // stands beside the slot, since an idle slot may have a reservation.
-#[derive(Drop)]
+#[derive(Clone, Copy)]
 pub struct Reserve {
     pub reservation: u32,
     pub drawn: u32,
 }
 
 // Pending work (document 01: the store work in hand).
-#[derive(Drop)]
+#[derive(Clone, Copy)]
 pub enum Pending {
     Nothing,
     Commit { slot: u32, done: u32, due: u32 },
@@ -50,7 +50,7 @@ pub enum Pending {
 
 // The memory: the block count m, the cursor (the block to be searched first), SAM, COM, the eight slots, what is reserved for
 // each, and the pending work.
-#[derive(Drop)]
+#[derive(Clone, Copy)]
 pub struct Memory {
     pub blocks: u32,
     pub cursor: u32,

@@ -14,7 +14,7 @@ use disk_log::log::{contents, number};
 use disk_log::phase::Phase;
 
 // One word of the disk and its new contents.
-#[derive(Drop)]
+#[derive(Clone, Copy)]
 pub struct Store {
     pub place: usize,
     pub value: u32,

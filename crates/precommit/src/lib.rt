@@ -1,4 +1,6 @@
 // Precommit: the slot takes no more touches.
+#![tactic(auto)]
+
 ghost use Rattle.std.specs.Prelude.{◌≡◌};
 ghost use Rattle.model.specs.Rules.Calls.Precommit.{precommit_answer, precommit_memory};
 

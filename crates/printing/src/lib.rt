@@ -1,4 +1,6 @@
 // Output that is put together in a large piece, and written when the piece is nearly full.
+#![tactic(auto)]
+
 pub mod runs;
 
 ghost use Rattle.std.specs.Prelude.{◌+◌, ◌≤◌};

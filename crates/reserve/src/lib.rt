@@ -1,4 +1,6 @@
 // Reserve: blocks set aside for an idle slot, in the place of what was.
+#![tactic(auto)]
+
 ghost use Rattle.std.specs.Prelude.{◌≡◌};
 ghost use Rattle.model.specs.Rules.Calls.Reserve.{reserve_answer, reserve_memory};
 

@@ -1,4 +1,6 @@
 // Revoke: a precommitted slot's transaction is rolled back.
+#![tactic(auto)]
+
 ghost use Rattle.std.specs.Prelude.{◌≡◌};
 ghost use Rattle.model.specs.Rules.Calls.Revoke.{revoke_answer, revoke_memory};
 

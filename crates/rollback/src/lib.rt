@@ -1,4 +1,6 @@
 // What drop and revoke do to a slot that they serve: one piece of work for both.
+#![tactic(auto)]
+
 ghost use Rattle.std.specs.Prelude.{◌≡◌};
 ghost use Rattle.bitmap.specs.Bits.{IsBitmap};
 ghost use Rattle.bitops.specs.Combine.{rollback_word, zip3};

@@ -1,4 +1,6 @@
 // Start: the slot opens with a copy of SAM.
+#![tactic(auto)]
+
 ghost use Rattle.std.specs.Prelude.{◌≡◌};
 ghost use Rattle.model.specs.Rules.Calls.Start.{start_answer, start_memory};
 

@@ -1,5 +1,7 @@
 // Status: how many blocks are allocated, how many can be had, are on their way in and out, and are held, and how many slots
 // aren't idle. The memory stays.
+#![tactic(auto)]
+
 ghost use Rattle.std.specs.Prelude.{◌≡◌, true};
 ghost use Rattle.model.specs.Rules.Calls.Status.{active_slots, status_answer};
 ghost use Rattle.status.specs.Status.{Within, status_of};

@@ -1,4 +1,6 @@
 // Store: the next store of the pending work, one word of the disk. The work ends with its last store.
+#![tactic(auto)]
+
 mod progress;
 mod step;
 

@@ -7,7 +7,7 @@ ghost use Rattle.store.specs.Progress.{StoreLeft, ends_with, pending_after, ends
 use model_types::memory::Pending;
 
 // The stores done, and all of them.
-#[derive(Drop)]
+#[derive(Clone, Copy)]
 struct Progress {
     done: u32,
     due: u32,

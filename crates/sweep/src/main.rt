@@ -1,5 +1,7 @@
 // The sweep: a crash after each store of the longest commit, and again after each store of the recovery that follows
 // (docs/TEST-LINES.md).
+#![tactic(auto)]
+
 mod longest;
 
 ghost use Rattle.printing.specs.Waits.{Waits};

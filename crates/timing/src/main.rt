@@ -1,5 +1,7 @@
 // Calls in turn as a client makes them, for `make speed` (docs/SPEED.md): standard input is a script, and standard output a
 // checksum of all answers.
+#![tactic(auto)]
+
 mod script;
 mod steps;
 

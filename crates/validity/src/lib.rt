@@ -1,5 +1,7 @@
 // Whether a memory is valid (document 01: fit). Every public call asks this first, so it goes over whole words, and takes
 // the memory by its parts.
+#![tactic(auto)]
+
 ghost use Rattle.std.specs.Prelude.{◌≡◌, false, get_or};
 ghost use Rattle.bitmap.specs.Bits.{IsBitmap};
 ghost use Rattle.model_types.specs.Memory.{bitmap, memory_of, idle_slot, no_reserves};
@@ -21,7 +23,7 @@ pub mod fit;
 pub mod pending;
 
 // The numbers of a memory: its block count, its cursor and what is reserved.
-#[derive(Drop)]
+#[derive(Clone, Copy)]
 pub struct Numbers {
     pub blocks: u32,
     pub cursor: u32,
@@ -66,7 +68,7 @@ pub fn maps_valid<'a>(
 
 // What is known of a memory once it is tested: whether it is valid; if so, its available blocks where something is reserved, which
 // were counted for that, and 0 where nothing is.
-#[derive(Drop)]
+#[derive(Clone, Copy)]
 pub struct Checked {
     pub sound: bool,
     pub available: u32,

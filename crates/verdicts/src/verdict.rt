@@ -6,7 +6,7 @@ ghost use Rattle.verdicts.specs.Verdicts.{error_of, is_accepted, unless_holds};
 use model_types::answer::{Answer, GrantAnswer, StoresAnswer};
 use model_types::error::Error;
 
-#[derive(Drop)]
+#[derive(Clone, Copy)]
 pub enum Verdict {
     Accepted,
     Refused(Error),
