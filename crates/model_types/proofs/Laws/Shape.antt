@@ -71,23 +71,23 @@ slots_read slots d s shape l = get_or-there slots s d idle_slot (omega (arith, s
 -- ---- from what owning a value tells
 
 -- of each word of an array
-each-small : (words : List ℕ) (us : List Val) → shadow (each ℕ u32-field.row.own_val (map (λ w. w) words) us) → (k : ℕ) → get_or words k 0 < 2 ^ 32
+each-small : (words : List ℕ) (us : List Val) → shadow (each ℕ u32-field.row.own_val words us) → (k : ℕ) → get_or words k 0 < 2 ^ 32
 each-small [] us h k = omega arith
 each-small (w ∷ ws) [] h k = absurd h
 each-small (w ∷ ws) (u ∷ us) h zero = h.0.1
 each-small (w ∷ ws) (u ∷ us) h (suc k) = each-small ws us h.1 k
 
 -- of 128 words
-pub words-shaped : (words : List ℕ) (vs : List Val) → Is (array_field u32-field bitmap_words).row (map (λ w. w) words) vs → IsBitmap words
+pub words-shaped : (words : List ℕ) (vs : List Val) → Is (array_field u32-field bitmap_words).row words vs → IsBitmap words
 words-shaped words vs good =
-    record { size = sym (length-map words (λ w. w)) ∙ good.1.0.1; small = each-small words good.0 good.1.1 }
+    record { size = good.1.0.1; small = each-small words good.0 good.1.1 }
 
 -- of a slot
 pub slot-shaped : (slot : Slot) (vs : List Val) → Is slot_row slot vs → IsBitmap slot.tam.words
 slot-shaped slot vs good = words-shaped slot.tam.words _ good.1.1.0.1.1.0
 
 -- of each slot of an array
-each-shaped : (slots : List Slot) (us : List Val) → shadow (each slot-field.row.Denot slot-field.row.own_val (map slot-field.into slots) us) → (s : ℕ)
+each-shaped : (slots : List Slot) (us : List Val) → shadow (each Slot slot_row.own_val slots us) → (s : ℕ)
     → IsBitmap (get_or slots s idle_slot).tam.words
 each-shaped [] us h s = empty-is
 each-shaped (slot ∷ slots) [] h s = absurd h
@@ -111,14 +111,6 @@ reserve-small reserve vs good = record { reservation = good.1.1.0.1; drawn = goo
 none-small : SmallReserve no_reserve
 none-small = record { reservation = omega arith; drawn = omega arith }
 
--- of each of an array
-each-reserve : (reserves : List Reserve) (us : List Val) → shadow (each reserve-field.row.Denot reserve-field.row.own_val (map reserve-field.into reserves) us) → (s : ℕ)
-    → SmallReserve (get_or reserves s no_reserve)
-each-reserve [] us h s = none-small
-each-reserve (reserve ∷ reserves) [] h s = absurd h
-each-reserve (reserve ∷ reserves) (u ∷ us) h zero = reserve-small reserve (u ∷ []) h.0
-each-reserve (reserve ∷ reserves) (u ∷ us) h (suc s) = each-reserve reserves us h.1 s
-
 -- of an array that is a parameter
 each-own-reserve : (reserves : List Reserve) (us : List Val) → shadow (each Reserve reserve-row.own_val reserves us) → (s : ℕ) → SmallReserve (get_or reserves s no_reserve)
 each-own-reserve [] us h s = none-small
@@ -130,10 +122,10 @@ pub reserves-shaped : (reserves : List Reserve) (vs : List Val) → Is (Array re
 reserves-shaped reserves vs good = record { eight = good.1.0.1; small = each-own-reserve reserves good.0 good.1.1 }
 
 -- of one that is a field
-pub reserves-field-shaped : (reserves : List Reserve) (vs : List Val) → Is (array_field reserve-field slot_count).row (map reserve-field.into reserves) vs
+pub reserves-field-shaped : (reserves : List Reserve) (vs : List Val) → Is (Array reserve-row slot_count) reserves vs
     → ShapedReserves reserves
 reserves-field-shaped reserves vs good =
-    record { eight = sym (length-map reserves reserve-field.into) ∙ good.1.0.1; small = each-reserve reserves good.0 good.1.1 }
+    reserves-shaped reserves vs good
 
 -- nothing reserved
 pub none-shaped : ShapedReserves no_reserves
@@ -151,7 +143,7 @@ shaped memory vs good =
     record {
       sam = words-shaped memory.sam.words _ good.1.1.1.1.0.1.1.0;
       «com» = words-shaped memory.com.words _ good.1.1.1.1.1.0.1.1.0;
-      slots = sym (length-map memory.slots slot-field.into) ∙ slots.1.0.1;
+      slots = slots.1.0.1;
       tam = each-shaped memory.slots slots.0 slots.1.1;
       reserves = reserves-field-shaped memory.reserves _ good.1.1.1.1.1.1.1.0;
     }
