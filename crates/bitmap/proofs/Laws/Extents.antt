@@ -9,7 +9,7 @@ use mathlib.Core.List.{List, [], ◌∷◌}
 use lib.ListN.{length, get_or}
 use lib.Dec.{leb, ltb, eqb}
 use borrow.Author.Tests.{leb-true, le-leb, ltb-true, ltb-false, eqb-true, eqb-false, lt-ltb}
-use Rattle.bitmap.specs.Blocks.{from, member, all_below}
+use Rattle.bitmap.specs.Blocks.{member, all_below}
 use Rattle.bitmap.specs.Extents.{adjoining, is_start, starts, distance, nearer, nearest_of, nearest}
 use Rattle.bitmap.proofs.Laws.Bits.{below-or-from}
 use Rattle.bitmap.proofs.Laws.Blocks.{Distinct, all_below-at, all_below-all, member-cons, member-first, member-rest, member-from-true, member-from}

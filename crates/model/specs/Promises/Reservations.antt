@@ -1,6 +1,6 @@
 -- What reservations promise. Document 02, job 7: "One busy till mustn't starve the rest." And "until a cut wipes the claims, an open
 -- station may always allocate up to its claim, 1 to 64 a call into a list as long; store work in hand alone delays it."
-use Rattle.std.specs.Prelude.{ℕ, ◌+◌, ◌-◌, ◌≤◌, ◌<◌, min, ◌≡◌, Bool, true, false, not, ◌&&◌, List, length, get_or, set, eqb}
+use Rattle.std.specs.Prelude.{ℕ, ◌+◌, ◌-◌, ◌≤◌, ◌<◌, min, ◌≡◌, Bool, true, false, ◌&&◌, List, length, get_or, set, eqb}
 use Rattle.bitmap.specs.Sizes.{slot_count, max_count}
 use Rattle.model.specs.Types.{Idle, Open, Pending, Nothing, Memory, Answer, GrantAnswer, StoresAnswer, WorkPending, SlotBusy, OverReserved, ReservedForOthers}
 use Rattle.model_types.specs.Memory.{slot_at, reserve_at, reserve_of, no_reserves}

@@ -2,9 +2,9 @@
 use Prim.Native.Nat.{ℕ, zero, suc, ◌^◌, ◌<◌}
 use native.Mathlib.Nat.{not-suc-le-zero, le_of_suc-le-suc}
 use native.Mathlib.Omega.{arith}
-use mathlib.Core.Path.{◌≡◌, refl, sym, ◌∙◌}
-use mathlib.Core.List.{List, [], ◌∷◌, map}
-use lib.ListN.{length, get_or, replicate, length-map}
+use mathlib.Core.Path.{◌≡◌, refl}
+use mathlib.Core.List.{List, [], ◌∷◌}
+use lib.ListN.{length, get_or, replicate}
 use mir.Val.{Val}
 use denote.Laws.{Is}
 use denote.Shadow.{shadow}
@@ -16,8 +16,8 @@ use Rattle.model_types.specs.declared.memory.Slot.{Slot}
 use Rattle.model_types.specs.declared.memory.Reserve.{Reserve}
 use Rattle.model_types.specs.declared.memory.Memory.{Memory}
 use Rattle.model_types.specs.Memory.{slot_at, idle_slot, no_reserve, no_reserves}
-use Rattle.model_types.specs.contracts.memory.Slot.{the_row as slot_row, the_field as slot-field}
-use Rattle.model_types.specs.contracts.memory.Reserve.{the_row as reserve-row, the_field as reserve-field}
+use Rattle.model_types.specs.contracts.memory.Slot.{the_row as slot_row}
+use Rattle.model_types.specs.contracts.memory.Reserve.{the_row as reserve-row}
 use Rattle.model_types.specs.contracts.memory.Memory.{the_row as memory-row}
 
 -- two numbers of 32 bits

@@ -10,7 +10,7 @@ use lib.Dec.{leb, ltb, eqb}
 use borrow.Author.Tests.{ltb-true, leb-true, eqb-true, eq-eqb, lt-ltb, le-leb}
 use Rattle.bitmap.specs.Sizes.{max_blocks, bitmap_words, words_for}
 use Rattle.bitmap.specs.Bits.{no_bits_from}
-use Rattle.model.specs.Rules.Stores.{Store, ◌≔◌, writes, changes, log_stores}
+use Rattle.model.specs.Rules.Stores.{Store, ◌≔◌, writes, log_stores}
 use Rattle.model.specs.Rules.Disk.{entries_in, entries_valid, entries_agree}
 use Rattle.model.proofs.Laws.Disk.Writes.{and_both, and_first, and_second}
 use Rattle.model.proofs.Laws.Disk.Places.{Places, writes-shift}

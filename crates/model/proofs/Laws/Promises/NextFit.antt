@@ -16,7 +16,6 @@ use Rattle.bitmap.proofs.Laws.Blocks.{get_or-member, member-take, from-append}
 use Rattle.bitmap.proofs.Laws.Round.{member-round, round-member, round-zero, round_same, without, available-without, round-drop, after-met-lt, after-last-at, wrapped-below, wrapped-end}
 use Rattle.bitmap.proofs.Laws.Ahead.{Rises, rises-at, rises-first, round-rises}
 use Rattle.model.specs.Types.{Pending, Memory, Error, GrantAnswer}
-use Rattle.model_types.specs.Answers.{granted}
 use Rattle.model_types.specs.Memory.{zero_memory}
 use Rattle.model.specs.Rules.First.{unless_refused}
 use Rattle.model.specs.Rules.Available.{available}
