@@ -10,6 +10,7 @@ use model_types::memory::Reserve;
 
 // A slot's reserve after a grant of so many blocks: the reservation is lowered by them, not below 0, and what it was lowered by
 // is drawn.
+#[tactic(auto, unfolding(model::specs::Rules::Reserves::drawing))]
 fn drawn_on(reserve: Reserve, count: u32) -> Reserve
     requires few { Few reserve }
     requires count_le_max_count { count ≤ max_count }
@@ -36,6 +37,7 @@ pub fn draw(mut reserves: [Reserve; 8], at: usize, count: u32) -> [Reserve; 8]
 }
 
 // After the slot's rollback: what it has drawn is put back. The others' stay.
+#[tactic(auto, unfolding(model::specs::Rules::Reserves::put_back))]
 pub fn put_back(mut reserves: [Reserve; 8], at: usize) -> [Reserve; 8]
     requires at_lt_slot_count { at < slot_count }
     requires few { Few (get_or reserves at no_reserve) }
@@ -47,6 +49,7 @@ pub fn put_back(mut reserves: [Reserve; 8], at: usize) -> [Reserve; 8]
 }
 
 // After the slot's commit: what it has drawn is used up. The others' stay.
+#[tactic(auto, unfolding(model::specs::Rules::Reserves::used_up))]
 pub fn use_up(mut reserves: [Reserve; 8], at: usize) -> [Reserve; 8]
     requires { at < slot_count }
     ensures { result ≡ set reserves at (used_up (get_or reserves at no_reserve)) }

@@ -39,6 +39,7 @@ impl Verdict {
     }
 
     // The answer of a call that is done or refused.
+    #[tactic(auto, unfolding(model_types::specs::Answers::done))]
     pub fn answer(self) -> Answer
         ensures { result ≡ done (error_of self) }
     {
@@ -49,6 +50,7 @@ impl Verdict {
     }
 
     // The answer of a call that gives blocks, this one first.
+    #[tactic(auto, unfolding(model_types::specs::Answers::granted))]
     pub fn grant(self, first: u32) -> GrantAnswer
         ensures { result ≡ granted (error_of self) first }
     {
@@ -59,6 +61,7 @@ impl Verdict {
     }
 
     // The answer of a call that leaves so many stores due.
+    #[tactic(auto, unfolding(model_types::specs::Answers::due))]
     pub fn stores(self, left: u32) -> StoresAnswer
         ensures { result ≡ due (error_of self) left }
     {
