@@ -4,7 +4,8 @@
 ghost use Rattle.std.specs.Prelude.{◌≡◌, length};
 ghost use Rattle.inspect_lines.specs.Reads.{Reading, kept};
 
-use libc::STDIN_FILENO;
+use std::io::Read;
+use std::rt::Stdin;
 
 // The bytes kept of a line: one more than a line may have.
 const KEPT: usize = 65;
@@ -70,14 +71,13 @@ fn gather(input: &[u8], reader: Reader, line: &mut [u8]) -> Reader
     }
 }
 
-// Reads the next piece. At the input's end there is a line if bytes of it were kept.
-fn fill(input: &mut [u8], reader: Reader) -> Reader
+// Reads the next piece. At the input's end, which a failed read counts as, there is a line if bytes of it were kept.
+fn fill(mut stdin: Stdin, input: &mut [u8], reader: Reader) -> Reader
     requires { Reading (length input.old) reader }
     ensures { Reading (length input.new) result }
 {
     let len = reader.len;
-    let got = libc::read(STDIN_FILENO, input);
-    let end = io::count(got, input);
+    let end = stdin.read(input).unwrap_or(0);
     if end == 0 {
         return Reader {
             next: 0,
@@ -97,7 +97,7 @@ fn fill(input: &mut [u8], reader: Reader) -> Reader
 }
 
 // Reads on in the piece, or the next piece if this one is used up.
-fn read_on(input: &mut [u8], reader: Reader, line: &mut [u8]) -> Reader
+fn read_on(stdin: Stdin, input: &mut [u8], reader: Reader, line: &mut [u8]) -> Reader
     requires reading { Reading (length input.old) reader }
     requires line_len { length line.old ≡ kept }
     ensures { Reading (length input.new) result }
@@ -105,11 +105,11 @@ fn read_on(input: &mut [u8], reader: Reader, line: &mut [u8]) -> Reader
     if reader.next < reader.end {
         return gather(input, reader, line);
     }
-    fill(input, reader)
+    fill(stdin, input, reader)
 }
 
 // Reads the next line. A proved loop has to end, so it counts its turns down from a number that no input uses up.
-pub fn next_line(input: &mut [u8], reader: Reader, line: &mut [u8]) -> Reader
+pub fn next_line(stdin: Stdin, input: &mut [u8], reader: Reader, line: &mut [u8]) -> Reader
     requires reading { Reading (length input.old) reader }
     requires line_len { length line.old ≡ kept }
     ensures { Reading (length input.new) result }
@@ -118,7 +118,7 @@ pub fn next_line(input: &mut [u8], reader: Reader, line: &mut [u8]) -> Reader
     state.len = 0;
     let mut turns = u64::MAX;
     while 0 < turns {
-        let next = read_on(input, state, line);
+        let next = read_on(stdin, input, state, line);
         state = next;
         if state.more {
             turns -= 1;

@@ -6,8 +6,8 @@ pub mod runs;
 ghost use Rattle.std.specs.Prelude.{◌+◌, ◌≤◌};
 ghost use Rattle.printing.specs.Waits.{Waits, piece, room};
 
-use libc::STDOUT_FILENO;
-
+// Standard output's descriptor.
+const STDOUT: i32 = 1;
 // The bytes of a piece.
 const PIECE: usize = 65536;
 // The bytes that a piece has left at a place for more.
@@ -17,7 +17,7 @@ const ROOM: usize = 64;
 pub fn flush(out: &[u8], at: usize)
     requires { Waits out.now at }
 {
-    io::write_all(STDOUT_FILENO, &out[..at]);
+    io::write_all(STDOUT, &out[..at]);
 }
 
 // The place for what comes next: behind what waits to be written, or at the front once that is written.
