@@ -1,6 +1,6 @@
 // The bench program, run on a random history with lines not in form.
 #![tactic(auto)]
 
-fn main() {
-    bench_run::main_loop();
+fn main(rt: HostRuntime) {
+    bench_run::main_loop(rt.stdin());
 }

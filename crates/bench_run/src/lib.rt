@@ -14,6 +14,7 @@ ghost use Rattle.bench_run.specs.Whole.{AllRead, Whole};
 use bench_piece::piece::{last_line, run_read};
 use bench_state::run::Run;
 use reading::{Read, read_piece};
+use std::rt::Stdin;
 use writing::{Written, write_piece};
 
 // After the last piece: the state, what was read and what was written.
@@ -33,7 +34,13 @@ pub struct Done {
 
 // Reads to the input's end, or to the last line that is read, and writes the answers piece by piece. A proved loop has to
 // end, so it counts bytes down from a number that no input uses up.
-fn read_all(input: &mut [u8], disk: &mut [u32], line: &mut [u8], out: &mut [u8]) -> Progress
+fn read_all(
+    stdin: Stdin,
+    input: &mut [u8],
+    disk: &mut [u32],
+    line: &mut [u8],
+    out: &mut [u8],
+) -> Progress
     requires disk_value { disk.old ≡ replicate disk_words 0 }
     requires room { Room (length input.old) line.old out.old }
     ensures { AllRead (length input.old) result line.new disk.new }
@@ -44,7 +51,7 @@ fn read_all(input: &mut [u8], disk: &mut [u32], line: &mut [u8], out: &mut [u8])
     let most = input.len() as u64;
     let mut left = u64::MAX;
     while most < left {
-        read = read_piece(read, input);
+        read = read_piece(stdin, read, input);
         let n = read.last();
         let piece = run_read(input, n, run, disk, line, out);
         written = write_piece(written, out, piece.end);
@@ -59,12 +66,18 @@ fn read_all(input: &mut [u8], disk: &mut [u32], line: &mut [u8], out: &mut [u8])
 }
 
 // Reads all lines and writes their answers, those of a last line that no byte 10 ends too.
-fn run_all(input: &mut [u8], disk: &mut [u32], line: &mut [u8], out: &mut [u8]) -> Done
+fn run_all(
+    stdin: Stdin,
+    input: &mut [u8],
+    disk: &mut [u32],
+    line: &mut [u8],
+    out: &mut [u8],
+) -> Done
     requires disk_value { disk.old ≡ replicate disk_words 0 }
     requires room { Room (length input.old) line.old out.old }
     ensures { Whole (length input.old) result }
 {
-    let all = read_all(input, disk, line, out);
+    let all = read_all(stdin, input, disk, line, out);
     let run = all.run;
     let end = last_line(run, disk, line, out);
     let before = all.written;
@@ -75,12 +88,12 @@ fn run_all(input: &mut [u8], disk: &mut [u32], line: &mut [u8], out: &mut [u8]) 
 
 // The whole program. It reads 4,096 bytes at a time, and has room for an answer to each of them and
 // to each byte of a line that is kept.
-pub fn main_loop() -> Done
+pub fn main_loop(stdin: Stdin) -> Done
     ensures { Whole 4096 result }
 {
     let mut disk = [0u32; 386];
     let mut line = [0u8; 66];
     let mut input = [0u8; 4096];
     let mut out = [0u8; 212262];
-    run_all(&mut input, &mut disk, &mut line, &mut out)
+    run_all(stdin, &mut input, &mut disk, &mut line, &mut out)
 }

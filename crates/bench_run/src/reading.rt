@@ -1,7 +1,8 @@
 // Reading, and an account of it that no other module can make: each byte read is counted here.
 ghost use Rattle.std.specs.Prelude.{◌≡◌, ◌+◌, ◌^◌, ◌≤◌, ◌<◌, length};
 
-use libc::STDIN_FILENO;
+use std::io::Read as _;
+use std::rt::Stdin;
 
 // How many bytes were read: in the last piece, and in all.
 #[derive(Clone, Copy)]
@@ -27,14 +28,13 @@ impl Read {
     }
 }
 
-// Reads a piece of standard input to the front of the slice.
-pub(crate) fn read_piece(before: Read, input: &mut [u8]) -> Read
+// Reads a piece of standard input to the front of the slice. A failed read counts as the input's end.
+pub(crate) fn read_piece(mut stdin: Stdin, before: Read, input: &mut [u8]) -> Read
     requires { before.count + length input.old < 2 ^ 64 }
     ensures within { result.last ≤ length input.new }
     ensures counts { result.count ≡ before.count + result.last }
 {
-    let got = libc::read(STDIN_FILENO, input);
-    let n = io::count(got, input);
+    let n = stdin.read(input).unwrap_or(0);
     Read {
         last: n,
         count: before.count + n as u64,

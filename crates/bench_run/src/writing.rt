@@ -1,7 +1,8 @@
 // Writing, and an account of it that no other module can make: each byte handed to write is counted here.
 ghost use Rattle.std.specs.Prelude.{◌≡◌, ◌+◌, ◌^◌, ◌≤◌, ◌<◌, length};
 
-use libc::STDOUT_FILENO;
+// Standard output's descriptor.
+const STDOUT: i32 = 1;
 
 // How many bytes were written.
 #[derive(Clone, Copy)]
@@ -24,7 +25,7 @@ pub(crate) fn write_piece(before: Written, out: &[u8], n: usize) -> Written
     requires n_bound { before.count + n < 2 ^ 64 }
     ensures { result.count ≡ before.count + n }
 {
-    io::write_all(STDOUT_FILENO, &out[..n]);
+    io::write_all(STDOUT, &out[..n]);
     Written {
         count: before.count + n as u64,
     }

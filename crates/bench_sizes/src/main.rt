@@ -1,6 +1,6 @@
 // The bench program, run on short random histories over m of 1, 4, 31, 32, 33, 4,095 and 4,096, one after the other.
 #![tactic(auto)]
 
-fn main() {
-    bench_run::main_loop();
+fn main(rt: HostRuntime) {
+    bench_run::main_loop(rt.stdin());
 }

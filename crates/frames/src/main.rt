@@ -5,13 +5,15 @@
 
 mod made;
 
-use libc::STDIN_FILENO;
 use made::make_twice;
 use printing::{end_line, flush, put_number};
 
+// Standard input's descriptor.
+const STDIN: i32 = 0;
+
 fn main() {
     let mut input = [0u8; 3];
-    io::read_full(STDIN_FILENO, &mut input);
+    io::read_full(STDIN, &mut input);
     let code = make_twice(input[0], input[1], input[2]);
     let mut out = [0u8; 65536];
     let number = put_number(&mut out, 0, code as u64);

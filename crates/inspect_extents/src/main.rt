@@ -1,6 +1,6 @@
 // The test program `inspect`, run on extents of random volumes.
 #![tactic(auto)]
 
-fn main() {
-    inspect_run::main_loop();
+fn main(rt: HostRuntime) {
+    inspect_run::main_loop(rt.stdin());
 }

@@ -13,9 +13,10 @@ use inspect_lines::{Reader, next_line};
 use inspect_state::fixture::Fixture;
 use line::answer;
 use printing::flush;
+use std::rt::Stdin;
 
 // Answers the lines of the input, and returns the end of what waits to be written.
-fn answer_all(input: &mut [u8], line: &mut [u8], out: &mut [u8], at: usize) -> usize
+fn answer_all(stdin: Stdin, input: &mut [u8], line: &mut [u8], out: &mut [u8], at: usize) -> usize
     requires line_len { length line.old ≡ kept }
     requires waits { Waits out.old at }
     ensures { Waits out.new result }
@@ -25,7 +26,7 @@ fn answer_all(input: &mut [u8], line: &mut [u8], out: &mut [u8], at: usize) -> u
     let mut end = at;
     let mut number = 1;
     while number <= MAX_LINES {
-        let read = next_line(input, reader, line);
+        let read = next_line(stdin, input, reader, line);
         reader = read;
         if !reader.found {
             return end;
@@ -41,10 +42,10 @@ fn answer_all(input: &mut [u8], line: &mut [u8], out: &mut [u8], at: usize) -> u
 }
 
 // The whole program.
-pub fn main_loop() {
+pub fn main_loop(stdin: Stdin) {
     let mut input = [0u8; 65536];
     let mut line = [0u8; 65];
     let mut out = [0u8; 65536];
-    let end = answer_all(&mut input, &mut line, &mut out, 0);
+    let end = answer_all(stdin, &mut input, &mut line, &mut out, 0);
     flush(&out, end);
 }

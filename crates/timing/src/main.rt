@@ -5,13 +5,15 @@
 mod script;
 mod steps;
 
-use libc::STDIN_FILENO;
 use printing::{end_line, flush, put_number};
 use steps::make_steps;
 
+// Standard input's descriptor.
+const STDIN: i32 = 0;
+
 fn main() {
     let mut script = [0u8; 65536];
-    io::read_full(STDIN_FILENO, &mut script);
+    io::read_full(STDIN, &mut script);
     let sum = make_steps(&script);
     let mut out = [0u8; 65536];
     let number = put_number(&mut out, 0, sum);
