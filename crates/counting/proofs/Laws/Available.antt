@@ -8,7 +8,7 @@ use lib.Bits.{bit_or}
 use lib.Count.{ones}
 use Rattle.bitmap.specs.Sizes.{word_bits}
 use Rattle.bitmap.specs.Bits.{IsBitmap}
-use Rattle.bitmap.specs.Blocks.{from, is_available}
+use Rattle.bitmap.specs.Blocks.{is_available}
 use Rattle.bitmap.proofs.Laws.Blocks.{from_end}
 use Rattle.available.specs.Available.{available_word, available_from}
 use Rattle.available.proofs.Laws.Available.{is_available_in, available_in-past, available_from-in, available-bits, available-whole, available_word-lt}
