@@ -5,7 +5,6 @@ pub mod asked;
 mod numbers;
 
 use asked::{Further, Overwrite};
-use bytes::scan::find;
 use check::same;
 use numbers::{Numbers, numbers_from};
 
@@ -123,7 +122,10 @@ fn four(name: &[u8], kind: u32, slot: u32, done: u32, due: u32) -> Further {
 
 // A line, without its byte 10, taken apart.
 pub fn parse(line: &[u8]) -> Further {
-    let end = find(line, 0, line.len(), b' ');
+    let end = line
+        .iter()
+        .position(|byte| *byte == b' ')
+        .unwrap_or(line.len());
     let name = &line[..end];
     match numbers_from(line, end) {
         Numbers::Zero => zero(name),
