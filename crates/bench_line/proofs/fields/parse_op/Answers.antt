@@ -50,6 +50,5 @@ returns-in_default c =
     let line = c.args.line.now in
     let first = get_or line 3 0 in
     let none =
-    no-ops first (λ e. omega arith) (λ e. omega arith) (λ e. omega arith) (λ e. omega arith) (λ e. omega arith)
-    (λ e. omega arith) (λ e. omega arith) (λ e. omega arith) in
+    no-ops first (omega arith) (omega arith) (omega arith) (omega arith) (omega arith) (omega arith) (omega arith) (omega arith) in
     sym (at-letter line first c.if-line-le-OP.false refl ∙ ap (λ (list : List Op). parse_op list (drop 3 line)) none)
