@@ -1,3 +1,4 @@
 -- Each call: what its causes come to, one after the other, and its effect.
+pub mod Filled
 pub mod Format
 pub mod Open

@@ -12,7 +12,6 @@ use Rattle.model_types.specs.declared.error.Error.TheVariants.{DiskLength, DiskB
 use Rattle.model_types.specs.declared.memory.Pending.TheVariants.{Nothing, Recovery}
 use Rattle.model.specs.Rules.First.{first, first_or}
 use Rattle.bitmap.specs.Sizes.{blocks_in_range}
-use Rattle.model_types.specs.Answers.{due}
 use Rattle.model.specs.Rules.Disk.{disk_blocks, log_length, disk_bitmap, log_valid}
 use Rattle.model.proofs.Laws.Disk.Parts.{opens-parts, log-valid}
 use Rattle.model.specs.Rules.Causes.{disk_length_wrong, disk_blocks_wrong, disk_bitmap_wrong, disk_log_wrong}
