@@ -47,6 +47,7 @@ fn end_before(starts: &[u32; 129], from: u32) -> u32
 }
 
 // Of all starts the nearest to a block, the lower one at equal distance, or the number of blocks where there is none.
+#[tactic(auto, using(crate::proofs::Laws::Nearest::nearest_steps))]
 fn nearest_start(starts: &[u32; 129], blocks: u32, near: u32) -> u32
     requires near_lt_blocks { near < blocks }
     requires can_look { CanLook blocks starts.now }

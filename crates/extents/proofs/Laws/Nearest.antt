@@ -20,7 +20,7 @@ use Rattle.bitmap.proofs.Laws.Blocks.{member-cons, member-from-true, member-firs
 use Rattle.bitmap.proofs.Laws.Extents.{member-some, nearest-is, nearest-none}
 use Rattle.bitmap.proofs.Laws.Search.{WordAt}
 use Rattle.extents.specs.Starts.{AreWords, NoneFrom}
-use Rattle.extents.specs.Nearest.{next_start, end_before}
+use Rattle.extents.specs.Nearest.{next_start, end_before, CanLook}
 
 -- ---- above
 
@@ -270,3 +270,43 @@ module _ (words : List ℕ) {m near : ℕ} (inside : near < m) (none : NoneFrom 
           ⊎_elim (λ q. omega (arith, down.within)) (λ q. let f : near - e ≤ u - near = farther (omega arith) in omega (arith, up.from_here)) (either c t))
           (λ c t k d.
           ⊎_elim (λ q. omega (arith, down.within)) (λ q. omega (arith, down.within, up.from_here)) (either c t))
+
+-- ---- the start that the code gives: of the one above and the one below the nearer one
+
+module _ (words : List ℕ) (m near : ℕ) where
+  -- the one above lies from the block on, the one below before it
+  pub next-from : near ≤ m → near ≤ next_start m words near
+  next-from h = (next-above words m near h).from_here
+
+  below-at : 1 ≤ end_before words near → Below words near (end_before words near - 1)
+  below-at some = end-some-below words near (end_before words near - 1) (omega arith)
+
+  pub end-within : end_before words near ≤ near
+  end-within = ⊎_elim (λ h. omega arith) (λ h. omega (arith, (below-at h).within)) (below-or-from (end_before words near) 1)
+
+  module _ (inside : near < m) (can : CanLook m words) where
+    -- none below
+    pub nearest-no_below : end_before words near ≡ 0 → nearest near m (from (bit words) m 0) ≡ next_start m words near
+    nearest-no_below e = sym (only_above words inside can.none (next-above words m near (omega arith)) (end-none-below words near e))
+
+    -- the one above is nearer
+    pub nearest-above : 1 ≤ end_before words near → next_start m words near < m
+        → next_start m words near - near < near - (end_before words near - 1)
+        → nearest near m (from (bit words) m 0) ≡ next_start m words near
+    nearest-above some h closer =
+        sym (above-nearer words inside can.none (next-above words m near (omega arith)) (below-at some) h closer)
+
+    -- it isn't
+    pub nearest-below : 1 ≤ end_before words near → near - (end_before words near - 1) ≤ next_start m words near - near
+        → nearest near m (from (bit words) m 0) ≡ end_before words near - 1
+    nearest-below some farther =
+        sym (below-nearest words inside can.none (next-above words m near (omega arith)) (below-at some) (λ _. farther))
+
+    -- there is none above
+    pub nearest-no_above : 1 ≤ end_before words near → m ≤ next_start m words near
+        → nearest near m (from (bit words) m 0) ≡ end_before words near - 1
+    nearest-no_above some none =
+        sym (below-nearest words inside can.none (next-above words m near (omega arith)) (below-at some) (λ h. absurd (omega arith)))
+
+-- all of these
+pub ruleset nearest_steps = (next-from, end-within, nearest-no_below, nearest-above, nearest-below, nearest-no_above)
