@@ -274,7 +274,7 @@ module _ (words : List ℕ) {m near : ℕ} (inside : near < m) (none : NoneFrom 
 -- ---- the start that the code gives: of the one above and the one below the nearer one
 
 module _ (words : List ℕ) (m near : ℕ) where
-  -- the one above is not below the block, and the one below is
+  -- the one above lies from the block on, the one below before it
   pub next-from : near ≤ m → near ≤ next_start m words near
   next-from h = (next-above words m near h).from_here
 
