@@ -9,7 +9,7 @@ use lib.Dec.{leb, ltb, eqb}
 use borrow.Author.Tests.{le-leb, lt-leb, ltb-false, eqb-true}
 use Rattle.bitmap.specs.Sizes.{max_blocks, slot_count}
 use Rattle.bitmap.specs.Bits.{bit}
-use Rattle.bitmap.specs.Blocks.{available_blocks, is_allocating, allocating_blocks, from}
+use Rattle.bitmap.specs.Blocks.{available_blocks, is_allocating, allocating_blocks}
 use Rattle.bitmap.proofs.Laws.Bits.{no_bits-bit}
 use Rattle.bitmap.proofs.Laws.Blocks.{all_below-at, all_below-all, from-same}
 use Rattle.bitmap.proofs.Laws.Count.{count_past}

@@ -14,7 +14,7 @@ use Rattle.model_types.specs.declared.memory.Slot.{Slot}
 use Rattle.model_types.specs.declared.memory.Memory.{Memory}
 use Rattle.model_types.specs.Memory.{idle_slot, slot_at, is_active, empty_bitmap, sam_bit, tam_bit}
 use Rattle.model.specs.Rules.Touched.{touched}
-use Rattle.model.specs.Rules.Valid.{same_words, slot_valid, touches, valid}
+use Rattle.model.specs.Rules.Valid.{same_words, slot_valid, touches}
 use Rattle.model.proofs.Laws.Disk.Writes.{and_second, words_same}
 use Rattle.model.proofs.Laws.Memory.Valid.{ValidParts, all_slots-at, touches_at, touches_block, idle-valid, slot-below}
 use Rattle.model.proofs.Laws.Touched.Touches.{one, differs}
