@@ -1,9 +1,9 @@
 -- The words of a fixture's disk and list, and that what is lent of them is a part.
 use Prim.Native.Nat.{ℕ, ◌≤◌}
 use native.Mathlib.Omega.{arith}
-use mathlib.Core.Path.{◌≡◌, sym, ◌∙◌}
-use mathlib.Core.List.{List, map}
-use lib.ListN.{length, length-map}
+use mathlib.Core.Path.{◌≡◌}
+use mathlib.Core.List.{List}
+use lib.ListN.{length}
 use mir.Val.{Val}
 use denote.Laws.{Is}
 use denote.Struct.Field.{u32-field, array_field}
@@ -17,10 +17,9 @@ pub record Shaped (fixture : Fixture) : Type 0 where
   pub list : length fixture.list ≡ max_count
 
 -- of an array of n words
-words-length : (n : ℕ) (words : List ℕ) (vs : List Val) → Is (array_field u32-field n).row (map (λ w. w) words) vs → length words ≡ n
+words-length : (n : ℕ) (words : List ℕ) (vs : List Val) → Is (array_field u32-field n).row words vs → length words ≡ n
 words-length n words vs good =
-    let array = good.1.0 in
-    sym (length-map words (λ w. w)) ∙ array.1
+    let array = good.1.0 in array.1
 
 -- from what owning a fixture tells: in a proof `c.good` has it of each parameter
 pub shaped : (fixture : Fixture) (vs : List Val) → Is fixture-row fixture vs → Shaped fixture
