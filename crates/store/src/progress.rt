@@ -14,6 +14,7 @@ struct Progress {
 }
 
 // Of work of any kind. What is left of it is told by these two numbers alone.
+#[tactic(auto, unfolding(model::specs::Rules::Pending::stores_done, model::specs::Rules::Pending::stores_due))]
 fn progress_of(pending: Pending) -> Progress
     ensures done { result.done ≡ stores_done pending }
     ensures due { result.due ≡ stores_due pending }
@@ -26,6 +27,7 @@ fn progress_of(pending: Pending) -> Progress
 }
 
 // The work with one more store done.
+#[tactic(auto, unfolding(model::specs::Rules::Pending::stores_done, model::specs::Rules::Pending::stores_due, model::specs::Rules::Pending::one_more_done))]
 fn one_more_done(pending: Pending) -> Pending
     requires { StoreLeft pending }
     ensures { result ≡ one_more_done pending }
@@ -54,6 +56,7 @@ fn is_last(pending: Pending) -> bool
 }
 
 // The stores still due after the next one.
+#[tactic(auto, unfolding(model::specs::Rules::Calls::Store::still_due))]
 pub fn still_due(pending: Pending) -> u32
     requires { StoreLeft pending }
     ensures { result ≡ still_due pending }
@@ -63,6 +66,7 @@ pub fn still_due(pending: Pending) -> u32
 }
 
 // The work after the next store: one more is done, or it ends.
+#[tactic(auto, unfolding(crate::specs::Progress::pending_after))]
 pub fn pending_after(pending: Pending) -> Pending
     requires { StoreLeft pending }
     ensures { result ≡ pending_after pending }
@@ -74,6 +78,7 @@ pub fn pending_after(pending: Pending) -> Pending
 }
 
 // Whether the next store is a commit's last.
+#[tactic(auto, unfolding(crate::specs::Progress::ends_commit))]
 pub fn ends_commit(pending: Pending) -> bool
     requires { StoreLeft pending }
     ensures { result ≡ ends_commit pending }

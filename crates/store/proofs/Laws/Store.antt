@@ -8,7 +8,7 @@ use lib.ListN.{length, get_or, set, take, drop}
 use lib.Dec.{eqb}
 use borrow.Author.Tests.{lt-ltb}
 use Rattle.bitmap.specs.Bits.{IsBitmap}
-use Rattle.bitmap.specs.Sizes.{slot_count, slot_in_range, slot_index}
+use Rattle.bitmap.specs.Sizes.{slot_count, slot_in_range, slot_index, IsSlot}
 use Rattle.bitmap.specs.declared.Bitmap.{Bitmap}
 use Rattle.model_types.specs.declared.error.Error.{Error}
 use Rattle.model_types.specs.declared.error.Error.TheVariants.{MemoryInvalid, DiskLength, DiskMismatch, NothingPending}
@@ -34,14 +34,16 @@ use Rattle.model.specs.Rules.Calls.Store.{store_error, advanced, next_stored}
 use Rattle.model.specs.Rules.Sizes.{disk_words}
 use Rattle.model_types.proofs.Laws.Shape.{Shaped}
 use Rattle.model.proofs.Laws.Calls.First.{cause-holds}
+use Rattle.model.proofs.Laws.Calls.Accepted.{StoreAccepted, store-accepted}
 use Rattle.model.proofs.Laws.Memory.Valid.{ValidParts, valid-parts}
 use Rattle.model.proofs.Laws.Works.Pending.{CommitParts, commit-parts, precommitted-active, precommitted-below, unfinished}
 use Rattle.model.proofs.Laws.Commit.CommittedTam.{committed-tam, entries-tam}
 use Rattle.verdicts.specs.declared.verdict.Verdict.{Verdict}
-use Rattle.verdicts.specs.Verdicts.{verdict}
+use Rattle.verdicts.specs.Verdicts.{verdict, is_accepted}
+use Rattle.verdicts.proofs.Laws.Frame.{Judged, owner-read, none-held}
 use Rattle.ending.specs.Ended.{ended_slots}
 use Rattle.ending.proofs.Laws.Ended.{committed-parts}
-use Rattle.store.specs.Progress.{pending_after, ends_commit}
+use Rattle.store.specs.Progress.{StoreLeft, pending_after, ends_commit}
 use Rattle.store.specs.Step.{Fits, CanStore}
 use Rattle.store.proofs.Laws.PendingWork.{commit-due-is, in-recovery}
 
@@ -206,6 +208,30 @@ store-verdict {judged} {sound} memory disk shape tested e = e ∙ rw tested (go 
         ≡ verdict (first (causes t (parts_match memory.blocks memory.sam.words (new_sam memory memory.pending) disk memory.pending)))
     go true v = ap (λ (m : Bool). verdict (first (causes true m))) (matches-is memory shape v disk)
     go false v = ap verdict (cause-holds true MemoryInvalid _ refl ∙ sym (cause-holds true MemoryInvalid _ refl))
+
+-- by the slot that is read, which is the pending commit's
+pub store-judged : {at : ℕ} {sound accepted : Bool} {v : Verdict} (memory : Memory) (disk : List ℕ) (d : Slot) → Shaped memory
+    → IsSlot (owner_of memory.pending) at
+    → sound ≡ valid memory
+    → v ≡ verdict (first (store_causes sound memory.blocks memory.sam.words (get_or memory.slots at d).tam.words disk memory.pending))
+    → accepted ≡ is_accepted v
+    → Judged (store_error memory disk) v accepted
+store-judged {sound = sound} memory disk d shape index checked e test =
+    record {
+      is =
+          store-verdict memory disk shape checked
+          (e
+          ∙ ap (λ (slot : Slot). verdict (first (store_causes sound memory.blocks memory.sam.words slot.tam.words disk memory.pending)))
+          (owner-read memory d shape index));
+      test = test;
+    }
+
+-- accepted, a store is left
+pub store-left : {v : Verdict} {accepted : Bool} (memory : Memory) (disk : List ℕ) → Shaped memory
+    → Judged (store_error memory disk) v accepted → accepted ≡ true → StoreLeft memory.pending
+store-left memory disk shape judged taken =
+    let told : StoreAccepted memory disk = store-accepted memory disk (none-held judged taken) in
+    (fits memory shape told.is_valid).unfinished told.pending
 
 -- accepted, it answers with what is still due
 pub accepted-stores : (found : Option Error) (n : ℕ) → found ≡ none → StoresAnswer.Due n ≡ due found n
