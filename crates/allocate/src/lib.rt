@@ -6,7 +6,7 @@ ghost use Rattle.model.specs.Rules.Calls.Allocate.{allocate_answer, allocate_mem
 
 use available::scan::take_met;
 use bitmap::Bitmap;
-use causes::available::available_now;
+use causes::counted::available_now;
 use causes::grants::grant_causes;
 use model_types::answer::{GrantAnswer, Granted};
 use model_types::memory::Memory;

@@ -6,7 +6,7 @@ ghost use Rattle.bitmap.specs.Sizes.{bitmap_words};
 ghost use Rattle.model.specs.Rules.Calls.CommitCost.{cost_for, commit_cost_answer};
 
 use bitmap::Bitmap;
-use causes::available::available_now;
+use causes::counted::available_now;
 use causes::grants::cost_causes;
 use counting::count_differing;
 use model_types::answer::{Stored, StoresAnswer};

@@ -5,7 +5,7 @@ ghost use Rattle.std.specs.Prelude.{◌≡◌};
 ghost use Rattle.model.specs.Rules.Calls.Reserve.{reserve_answer, reserve_memory};
 
 use bitmap::Bitmap;
-use causes::available::available_now;
+use causes::counted::available_now;
 use causes::grants::room_causes;
 use model_types::answer::Changed;
 use model_types::memory::{Memory, Reserve};
