@@ -1,13 +1,11 @@
 # make bench [FILE=history]   proves and builds the bench program and runs it on document 01's example, or on a file of bench lines
 # make inspect [FILE=lines]   the same with the test program, which takes test lines too (docs/TEST-LINES.md)
-# make test                   everything: the second allocator's tests, the stored tests it makes, then the prover's gate
+# make test                   everything: the second allocator's tests, the stored tests it makes, then the prover's gate, rt ci
 # make soak [SEEDS=n]         n more seeds of random histories and damage through both allocators; the first difference is shown
 # make speed                  what a client pays, by kind of call, beside the second allocator; fails if a goal of docs/SPEED.md is missed
 # make clean                  removes what these made
 
 FILE ?= bench/example.txt
-# checks that rt runs at a time. It waits for all of a batch, so batches larger than the number of cores leave fewer idle
-JOBS ?= 6
 SEEDS ?= 20
 REFERENCE := reference/target/release/reference
 
@@ -41,7 +39,7 @@ stored-tests: reference
 	bench/check-costs
 
 test: reference-test stored-tests
-	RT_JOBS=$(JOBS) rt ci
+	bench/gate
 
 soak: program test-program reference
 	@bench/soak $(SEEDS)
@@ -50,4 +48,4 @@ speed: timed-programs reference
 	@python3 bench/speed
 
 clean:
-	rm -rf target reference/target
+	rm -rf target reference/target crates/*/out
