@@ -2,11 +2,12 @@
 use Prim.Native.Nat.{ℕ, ◌+◌, ◌^◌, ◌≤◌, ◌<◌}
 use native.Mathlib.Omega.{arith}
 use mathlib.Core.Path.{◌≡◌, ap₂}
-use mathlib.Core.Bool.{xor}
+use mathlib.Core.Bool.{Bool, xor, cond}
 use mathlib.Core.Option.{none}
 use mathlib.Core.List.{List}
-use lib.ListN.{length}
+use lib.ListN.{length, get_or}
 use Rattle.bitmap.specs.Sizes.{max_blocks, max_count}
+use Rattle.bitmap.specs.Blocks.{available_blocks}
 use Rattle.bitmap.proofs.Laws.Bits.{no_bits-bit}
 use Rattle.bitmap.proofs.Laws.Blocks.{from-length}
 use Rattle.bitmap.proofs.Laws.Count.{count_past}
@@ -16,6 +17,7 @@ use Rattle.model_types.specs.declared.memory.Slot.{Slot}
 use Rattle.model_types.specs.declared.memory.Memory.{Memory}
 use Rattle.model_types.specs.Answers.{due}
 use Rattle.model_types.specs.Memory.{slot_at, volume_words}
+use Rattle.model.specs.Rules.First.{first}
 use Rattle.model.specs.Rules.Touched.{touched, touched_blocks}
 use Rattle.model.specs.Rules.Available.{available}
 use Rattle.model.specs.Rules.CauseLists.{open_causes, of_slot, cost_causes}
@@ -23,9 +25,12 @@ use Rattle.model.specs.Rules.Reserves.{others_reserved}
 use Rattle.model.specs.Rules.Calls.Precommit.{precommit_error}
 use Rattle.model.specs.Rules.Calls.CommitCost.{commit_cost_error, cost_for, commit_cost, commit_cost_answer}
 use Rattle.model.proofs.Laws.Memory.Valid.{ValidParts, slot-below}
+use Rattle.model.proofs.Laws.Calls.Accepted.{precommit-accepted}
 use Rattle.verdicts.specs.declared.verdict.Verdict.{Verdict}
-use Rattle.verdicts.specs.Verdicts.{verdict, then_causes}
+use Rattle.verdicts.specs.Verdicts.{verdict, is_accepted, then_causes}
 use Rattle.verdicts.proofs.Laws.Verdicts.{both_read}
+use Rattle.verdicts.proofs.Laws.Frame.{Frame, Judged, open-verdict, others-read}
+use Rattle.causes.proofs.Laws.Available.{counted_is}
 
 module _ (memory : Memory) (s count : ℕ) where
   -- its own causes after those of an open slot
@@ -57,6 +62,24 @@ module _ (memory : Memory) (s count : ℕ) where
         → StoresAnswer.Due r ≡ commit_cost_answer memory s count
     unfolding commit_cost_answer commit_cost due
     cost-answered own read accepted counted w e = rw (accepted, e, w, counted, read, touched-is)
+
+-- the verdict of the call: the causes of an open slot, then its own by what is available and what is reserved for the others
+pub cost-judged : {at : ℕ} {sound : Bool} {memory : Memory} {s : ℕ} {v earlier : Verdict} {accepted : Bool} {counted reserved : ℕ}
+    → Frame memory s at sound
+    → (d : Slot) (count : ℕ)
+    → earlier ≡ verdict (first (open_causes sound memory.pending s (get_or memory.slots at d).state))
+    → reserved ≡ others_reserved memory.reserves at
+    → counted ≡ cond (is_accepted earlier) (length (available_blocks memory.blocks memory.sam.words memory.com.words)) 0
+    → v ≡ then_causes earlier (cost_causes counted count reserved)
+    → accepted ≡ is_accepted v
+    → Judged (commit_cost_error memory s count) v accepted
+cost-judged {memory = memory} {s = s} frame d count e f g h test =
+    let opened = open-verdict frame d e in record {
+      is =
+          cost-verdict memory s count _ _ h opened (counted_is memory _ g opened)
+          (λ passed. others-read frame f (precommit-accepted memory s passed).ready.below);
+      test = test;
+    }
 
 -- t and the count fit a word
 pub few-touched : {blocks : ℕ} (left right : List ℕ) (count : ℕ) → blocks ≡ count_differing left right → count ≤ max_count → blocks + count < 2 ^ 32
