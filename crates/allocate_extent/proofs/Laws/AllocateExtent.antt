@@ -27,11 +27,15 @@ use Rattle.model.specs.Rules.Calls.AllocateExtent.{allocate_extent_error, neares
 use Rattle.model_types.proofs.Laws.Shape.{Shaped}
 use Rattle.model.proofs.Laws.Calls.First.{first-none}
 use Rattle.model.proofs.Laws.Memory.Valid.{ValidParts, valid-parts, slot-below}
-use Rattle.model.proofs.Laws.Calls.Accepted.{count-some, count-few, block-below, precommit-accepted, AllocateExtentAccepted}
+use Rattle.model.proofs.Laws.Calls.Accepted.{count-some, count-few, block-below, precommit-accepted, AllocateExtentAccepted, allocate-extent-accepted}
 use Rattle.model.proofs.Laws.Promises.Extents.{nearest_start, nearest-extent, nearest-at, nearest-length}
 use Rattle.verdicts.specs.declared.verdict.Verdict.{Verdict}
 use Rattle.verdicts.specs.Verdicts.{verdict, is_accepted, unless_holds, then_causes}
-use Rattle.verdicts.proofs.Laws.Verdicts.{one_more, then-causes, then-known, then-passed, none_before, tested-last, accepted-none}
+use Rattle.verdicts.proofs.Laws.Verdicts.{one_more, then-causes, then-known, then-passed, unless-passed, none_before, tested-last, accepted-none}
+use Rattle.verdicts.proofs.Laws.Frame.{Frame, Judged, open-verdict, others-read, none-held}
+use Rattle.validity.specs.declared.Checked.{Checked}
+use Rattle.validity.specs.Checks.{Checks}
+use Rattle.causes.proofs.Laws.Available.{spared-same}
 use Rattle.available.specs.Take.{Takes}
 use Rattle.extents.specs.Take.{CanTake, LiesIn, TakesExtent}
 use Rattle.extents.specs.Nearest.{CanSearch}
@@ -153,3 +157,45 @@ module _ (memory : Memory) (s count near : ℕ) (list : List ℕ) where
           → Takes memory.blocks count (nearest_extent memory count near) memory.com.words own.tam.words list «com» tam after
       unfolding nearest_extent
       took-nearest own read shape «com» tam after t = rw is at (t memory.blocks (lies own read shape))
+
+-- ---- the verdict of the call, and the start that it goes by if it is accepted
+
+pub record Told (memory : Memory) (s count near : ℕ) (list : List ℕ) (start : ℕ) (v : Verdict) (accepted : Bool) : Type 0 where
+  pub judged : Judged (allocate_extent_error memory s count near list) v accepted
+  pub found : accepted ≡ true → start ≡ nearest_start memory count near
+
+module _ {memory : Memory} {s count near : ℕ} {list : List ℕ} {start : ℕ} {v : Verdict} {accepted : Bool} where
+  pub extent-accepted : Told memory s count near list start v accepted → accepted ≡ true → AllocateExtentAccepted memory s count near list
+  extent-accepted told taken = allocate-extent-accepted memory s count near list (none-held told.judged taken)
+
+  -- from what the parts of the call tell
+  pub extent-told : {at kept : ℕ} {earlier request found : Verdict}
+      → (checked : Checked)
+      → Checks memory checked
+      → Frame memory s at checked.sound
+      → (d : Slot)
+      → earlier ≡ verdict (first (open_causes checked.sound memory.pending s (get_or memory.slots at d).state))
+      → request ≡ then_causes earlier (request_causes memory.blocks count near list)
+      → start
+      ≡ cond (is_accepted request) (nearest near memory.blocks (starts (is_available memory.sam.words memory.com.words) memory.blocks count)) memory.blocks
+      → found ≡ unless_holds request (eqb start memory.blocks) NoExtent
+      → kept ≡ others_reserved memory.reserves at
+      → v ≡ then_causes found (spare_causes checked.available count kept)
+      → accepted ≡ is_accepted v
+      → Told memory s count near list start v accepted
+  extent-told {request = request} {found = found} checked checks frame d opened asked searched tested kept-is spared test =
+      let is_open = open-verdict frame d opened in
+      let started = start_is memory s count near list searched in
+      record {
+        judged = record {
+          is =
+              extent-verdict memory s count near list asked is_open _ _ tested
+              (λ e. ap (λ (b : ℕ). eqb b memory.blocks) (started e) ∙ none_found memory s count near list (can-search memory s count near list asked is_open e).some)
+              spared
+              (λ passed.
+              let ready = (precommit-accepted memory s passed).ready in
+              ap (spare_causes checked.available count) (others-read frame kept-is ready.below) ∙ spared-same memory checked checks ready.is_valid s count);
+          test = test;
+        };
+        found = λ taken. started (unless-passed request _ NoExtent tested (then-passed found _ (sym (ap is_accepted spared) ∙ sym test ∙ taken)).0);
+      }
