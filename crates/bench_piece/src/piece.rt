@@ -117,6 +117,7 @@ pub fn run_read(
 }
 
 // Answers a last line that no byte 10 ends, and gives the end of what is printed.
+#[tactic(auto, using(crate::proofs::Laws::Line::last_steps))]
 pub fn last_line(run: Run, disk: &mut [u32], line: &mut [u8], out: &mut [u8]) -> usize
     requires between { Between run line.old }
     requires room { Room 0 line.old out.old }

@@ -4,6 +4,7 @@ use mathlib.Core.Path.{◌≡◌, refl, sym, ap, subst, ◌∙◌}
 use mathlib.Core.Bool.{Bool, true, false}
 use mathlib.Core.List.{List, [], ◌∷◌, ◌++◌, append_assoc, append-nil}
 use native.Mathlib.Numerals.{add-one}
+use native.Mathlib.Nat.{pos_of_ne-zero}
 use native.Mathlib.Omega.{arith}
 use lib.ListN.{length, take, drop, set, length-set}
 use lib.Seq.{drop-nil, length-take-le, take-suc-set}
@@ -20,8 +21,8 @@ use Rattle.bench_step.specs.Output.{State, Leads, all_of, output_of, state_of}
 use Rattle.bench_step.specs.Lines.{Answered}
 use Rattle.bench_step.proofs.Laws.Output.{output-last, output-none}
 use Rattle.bench_step.proofs.Laws.Leads.{leads-past, leads-bytes}
-use Rattle.bench_piece.specs.Between.{Between, run_state}
-use Rattle.bench_piece.specs.Piece.{LineEnded}
+use Rattle.bench_piece.specs.Between.{Between, Room, run_state}
+use Rattle.bench_piece.specs.Piece.{LineEnded, LastLine}
 
 -- behind a byte 10 at the end there is no rest in which no line ends
 ends_last : (line : List ℕ) → NoEnd (line ++ (newline ∷ [])) → ⊥
@@ -88,3 +89,21 @@ module _ (run : Run) (line disk : List ℕ) where
       ∙ ended.leads.same []
       ∙ ap (λ (l : List ℕ). take after.at out-after ++ l) (output-none after.number (bench_of after.memory disk-after 0 0))
       ∙ append-nil (take after.at out-after)
+
+  -- so this is all that is printed, and the output holds it
+  pub last-ends : (out : List ℕ) → run.len ≡ 0 → LastLine (run_state [] run line disk) 0 out
+  last-ends out e = record { same = last_none e; within = omega arith }
+
+  pub last-answered : {out : List ℕ} {after : Lines} {disk-after out-after : List ℕ} → LineEnded (run_state [] run line disk) after disk-after out-after
+      → (run.len ≡ 0 → ⊥) → Between run line → Room 0 line out → length out-after ≡ length out
+      → LastLine (run_state [] run line disk) after.at out-after
+  last-answered ended some between room same = record {
+    same =
+        last_line
+        (rw (length-take-le run.len line (omega (arith, line-inside run line between room.kept_fits))) (pos_of_ne-zero some))
+        ended;
+    within = omega (arith, ended.room, same, room.answers_fit);
+  }
+
+-- both
+pub ruleset last_steps = (last-ends, last-answered)
