@@ -109,10 +109,10 @@ module _ {most : ℕ} {run : Run} {in-account : Read} {out-account : Written} {l
   reached-after : Reached (reading.bytes ++ take n input) (reading.written ++ take after.end out) (run_state [] after.run line_after disk-after)
   reached-after = reached-piece (take n input) (take after.end out) reading.reached ran.leads
 
-  reading-on : (left_After : ℕ) → (most < left_After → in_after.count + left_After ≡ 2 ^ 64 - 1)
-      → (left_After ≤ most → Stopped most in_after (reading.bytes ++ take n input))
-      → Reading most after.run in_after out-after left_After line_after disk-after
-  reading-on left_After going stopped = record {
+  reading-on : (left-after : ℕ) → (most < left-after → in_after.count + left-after ≡ 2 ^ 64 - 1)
+      → (left-after ≤ most → Stopped most in_after (reading.bytes ++ take n input))
+      → Reading most after.run in_after out-after left-after line_after disk-after
+  reading-on left-after going stopped = record {
     bytes = reading.bytes ++ take n input;
     written = reading.written ++ take after.end out;
     reached = reached-after;
