@@ -1,2 +1,2 @@
--- The verdict, and what the call leaves.
+-- By which error the call is refused, and what taking its blocks needs.
 pub mod Allocate

@@ -1,2 +1,2 @@
--- Lemmas of the call's proof.
+-- The laws of this crate.
 pub mod Laws

@@ -1,2 +1,2 @@
--- The laws of allocate extent.
+-- By which error the call is refused, and what the search and taking the blocks need.
 pub mod AllocateExtent

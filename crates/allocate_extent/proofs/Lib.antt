@@ -1,2 +1,2 @@
--- Lemmas of the proofs.
+-- The laws of this crate.
 pub mod Laws

@@ -1,5 +1,6 @@
 -- Available blocks and scans.
 pub mod Available
+pub mod Search
 pub mod Scan
 pub mod Take
 pub mod Took

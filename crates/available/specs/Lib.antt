@@ -1,3 +1,4 @@
 -- Available blocks, and what taking them leaves.
 pub mod Available
+pub mod Search
 pub mod Take

@@ -1,37 +1,25 @@
 // Available blocks found and taken, in the order met.
 ghost use Rattle.std.specs.Prelude.{◌≡◌, ◌≤◌};
 ghost use Rattle.bitmap.specs.Sizes.{max_blocks};
-ghost use Rattle.bitmap.specs.Bits.{IsBitmap};
 ghost use Rattle.available.specs.Available.{next_available, next_met};
 ghost use Rattle.available.specs.Take.{CanTake, TakesMet};
 
 use crate::available::available_word;
+use crate::search::next_block;
 use bitmap::Bitmap;
 use bitops::block;
 
 // The lowest available block from start on, or the number of blocks where there is none.
 pub fn next_available(sam: &[u32; 128], com: &[u32; 128], blocks: u32, start: u32) -> u32
-    requires bitmap { IsBitmap sam.now }
-    requires bitmap_2 { IsBitmap «com».now }
-    requires blocks_le_max_blocks { blocks ≤ max_blocks }
+    requires { blocks ≤ max_blocks }
     ensures { result ≡ next_available blocks sam.now «com».now start }
 {
-    let mut block = start;
-    while block < blocks {
-        let k = block / Bitmap::WORD_BITS;
-        let bits = available_word(sam, com, blocks, k as usize) >> (block % Bitmap::WORD_BITS);
-        if bits != 0 {
-            return block + u32::trailing_zeros(bits);
-        }
-        block = (k + 1) * Bitmap::WORD_BITS;
-    }
-    blocks
+    next_block(blocks, start, |k| available_word(sam, com, blocks, k))
 }
 
 // The first available block met from start on, going round, or the number of blocks where there is none.
+#[tactic(auto, using(crate::proofs::Laws::Scan::met_ahead, crate::proofs::Laws::Scan::met_behind))]
 pub fn next_met(sam: &[u32; 128], com: &[u32; 128], blocks: u32, start: u32) -> u32
-    requires bitmap { IsBitmap sam.now }
-    requires bitmap_2 { IsBitmap «com».now }
     requires blocks_le_max_blocks { blocks ≤ max_blocks }
     requires start_le_blocks { start ≤ blocks }
     ensures { result ≡ next_met blocks sam.now «com».now start }
@@ -59,6 +47,7 @@ pub fn take_met(
         «com».new tam.new list.new result }
 {
     let mut next = cursor;
+    // No plainer without a count: n is the place in the list.
     for n in 0..count {
         let found = next_met(sam, com, blocks, next);
         block::put(com, found);

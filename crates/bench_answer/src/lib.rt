@@ -10,7 +10,7 @@ ghost use Rattle.bench_answer.specs.Put.{Put, max_answer};
 use put::{put_bytes, put_field};
 
 // Puts an answer's line into out from index at on, and returns the index after it. The rest of out
-// is unchanged.
+// is unchanged. The index comes with the bytes, since many answers are put into one array (no heap) before it is written.
 pub fn print_answer(out: &mut [u8], at: usize, call: u32, answer: u32, value: u32) -> usize
     requires { at + max_answer ≤ length out.old }
     ensures { Put out.old at (answer_line call answer value) out.new result }

@@ -1,4 +1,3 @@
 -- What the contracts of this crate's functions cite. The line is defined in the crate model.
-pub mod Prefix
 pub mod Number
 pub mod Ops

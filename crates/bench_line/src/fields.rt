@@ -1,102 +1,86 @@
 // The fields of a line after "op=": the op's word, the slot and n.
-ghost use Rattle.std.specs.Prelude.{◌≡◌, [], ◌∷◌, ◌++◌, ◌≤◌, length, drop};
-ghost use Rattle.std.proofs.Math.Option.{some};
+ghost use Rattle.std.specs.Prelude.{◌≡◌, [], ◌∷◌, ◌++◌, Some};
 ghost use Rattle.model.specs.Rules.Line.{ops, op_word, slot_field, parse_op, slot_number, number_field};
 ghost use Rattle.bench_line.specs.Ops.{op_else};
 
-use crate::number::{Number, number_at};
-use crate::prefix::starts_with;
-use model_types::line::{Line, Op, Parsed};
+use crate::number::number;
+use model_types::line::{Line, Op};
 
-// Where the op's word stands in a line.
-const OP: usize = 3;
-
-// What stands after " n=", from index at on: a number and the line's end.
-fn number_field(line: &[u8], at: usize, op: Op, slot: u32) -> Parsed
-    requires { at ≤ length line.now }
-    ensures { result ≡ number_field op slot (some (drop at line.now)) }
+// What stands after " n=": a number and the line's end.
+#[tactic(auto, using(crate::proofs::Laws::Fields::n_laws))]
+fn number_field(bytes: &[u8], op: Op, slot: u32) -> Option<Line>
+    ensures { result ≡ number_field op slot (Some bytes.now) }
 {
-    let Number::Read { value, next } = number_at(line, at) else {
-        return Parsed::Malformed;
-    };
-    if next != line.len() {
-        return Parsed::Malformed;
+    let (n, rest) = number(bytes)?;
+    if !rest.is_empty() {
+        return None;
     }
-    Parsed::Call(Line { op, slot, n: value })
+    Some(Line { op, slot, n })
 }
 
-// What stands after " seat=", from index at on: a number and the field n.
-fn slot_number(line: &[u8], at: usize, op: Op) -> Parsed
-    requires { at ≤ length line.now }
-    ensures { result ≡ slot_number op (some (drop at line.now)) }
+// What stands after " seat=": a number and the field n.
+#[tactic(auto, using(crate::proofs::Laws::Fields::slot_laws))]
+fn slot_number(bytes: &[u8], op: Op) -> Option<Line>
+    ensures { result ≡ slot_number op (Some bytes.now) }
 {
-    let Number::Read { value, next } = number_at(line, at) else {
-        return Parsed::Malformed;
-    };
-    if starts_with(line, next, b" n=") {
-        return number_field(line, next + 3, op, value);
-    }
-    Parsed::Malformed
+    let (slot, rest) = number(bytes)?;
+    number_field(rest.strip_prefix(b" n=")?, op, slot)
 }
 
-// The call of op where its word, with " seat=" behind it, stands in line, and other elsewhere.
-fn op_else(line: &[u8], op: Op, word: &[u8], other: Parsed) -> Parsed
-    requires in_bounds { 3 ≤ length line.now }
-    requires word_value { word.now ≡ op_word op ++ slot_field }
-    ensures { result ≡ op_else op (drop 3 line.now) other }
+// The call of op where its word, with " seat=" behind it, stands at the front, and other elsewhere.
+#[tactic(auto, using(crate::proofs::Laws::Ops::word_laws))]
+fn op_else(bytes: &[u8], op: Op, word: &[u8], other: Option<Line>) -> Option<Line>
+    requires { word.now ≡ op_word op ++ slot_field }
+    ensures { result ≡ op_else op bytes.now other }
 {
-    if starts_with(line, OP, word) {
-        return slot_number(line, OP + word.len(), op);
+    match bytes.strip_prefix(word) {
+        Some(rest) => slot_number(rest, op),
+        None => other,
     }
-    other
 }
 
 // What stands after "op=", for the ops whose words begin with c.
-fn parse_c(line: &[u8]) -> Parsed
-    requires { 3 ≤ length line.now }
-    ensures { result ≡ parse_op (Op.Commit ∷ Op.Crash ∷ []) (drop 3 line.now) }
+#[tactic(auto, unfolding(model::specs::Rules::Line::parse_op, crate::specs::Ops::op_else))]
+fn parse_c(bytes: &[u8]) -> Option<Line>
+    ensures { result ≡ parse_op (Op.Commit ∷ Op.Crash ∷ []) bytes.now }
 {
-    let cut = op_else(line, Op::Crash, b"cut seat=", Parsed::Malformed);
-    op_else(line, Op::Commit, b"commit seat=", cut)
+    let cut = op_else(bytes, Op::Crash, b"cut seat=", None);
+    op_else(bytes, Op::Commit, b"commit seat=", cut)
 }
 
 // What stands after "op=", for the ops whose words begin with f.
-fn parse_f(line: &[u8]) -> Parsed
-    requires { 3 ≤ length line.now }
-    ensures { result ≡ parse_op (Op.Format ∷ Op.Deallocate ∷ []) (drop 3 line.now) }
+#[tactic(auto, unfolding(model::specs::Rules::Line::parse_op, crate::specs::Ops::op_else))]
+fn parse_f(bytes: &[u8]) -> Option<Line>
+    ensures { result ≡ parse_op (Op.Format ∷ Op.Deallocate ∷ []) bytes.now }
 {
-    let free = op_else(line, Op::Deallocate, b"free seat=", Parsed::Malformed);
-    op_else(line, Op::Format, b"format seat=", free)
+    let free = op_else(bytes, Op::Deallocate, b"free seat=", None);
+    op_else(bytes, Op::Format, b"format seat=", free)
 }
 
 // What stands after "op=", for the ops whose words begin with s.
-fn parse_s(line: &[u8]) -> Parsed
-    requires { 3 ≤ length line.now }
-    ensures { result ≡ parse_op (Op.Start ∷ Op.Store ∷ Op.Status ∷ []) (drop 3 line.now) }
+#[tactic(auto, unfolding(model::specs::Rules::Line::parse_op, crate::specs::Ops::op_else))]
+fn parse_s(bytes: &[u8]) -> Option<Line>
+    ensures { result ≡ parse_op (Op.Start ∷ Op.Store ∷ Op.Status ∷ []) bytes.now }
 {
-    let stat = op_else(line, Op::Status, b"stat seat=", Parsed::Malformed);
-    let store = op_else(line, Op::Store, b"store seat=", stat);
-    op_else(line, Op::Start, b"start seat=", store)
+    let stat = op_else(bytes, Op::Status, b"stat seat=", None);
+    let store = op_else(bytes, Op::Store, b"store seat=", stat);
+    op_else(bytes, Op::Start, b"start seat=", store)
 }
 
 // What stands after "op=". The first letter of a word leaves three ops at most.
-pub(crate) fn parse_op(line: &[u8]) -> Parsed
-    ensures { result ≡ parse_op ops (drop 3 line.now) }
+#[tactic(auto, using(crate::proofs::Laws::Ops::letter_laws), unfolding(model::specs::Rules::Line::ops, model::specs::Rules::Line::parse_op, crate::specs::Ops::op_else))]
+pub(crate) fn parse_op(bytes: &[u8]) -> Option<Line>
+    ensures { result ≡ parse_op ops bytes.now }
 {
-    let none = Parsed::Malformed;
-    if line.len() <= OP {
-        return none;
-    }
-    let first = line[OP];
-    match first {
-        b'a' => op_else(line, Op::Allocate, b"alloc seat=", none),
-        b'c' => parse_c(line),
-        b'd' => op_else(line, Op::Drop, b"drop seat=", none),
-        b'f' => parse_f(line),
-        b'o' => op_else(line, Op::Open, b"open seat=", none),
-        b'p' => op_else(line, Op::Precommit, b"pre seat=", none),
-        b'r' => op_else(line, Op::Revoke, b"revoke seat=", none),
-        b's' => parse_s(line),
-        _ => none,
+    match *bytes.first()? {
+        b'a' => op_else(bytes, Op::Allocate, b"alloc seat=", None),
+        b'c' => parse_c(bytes),
+        b'd' => op_else(bytes, Op::Drop, b"drop seat=", None),
+        b'f' => parse_f(bytes),
+        b'o' => op_else(bytes, Op::Open, b"open seat=", None),
+        b'p' => op_else(bytes, Op::Precommit, b"pre seat=", None),
+        b'r' => op_else(bytes, Op::Revoke, b"revoke seat=", None),
+        b's' => parse_s(bytes),
+        _ => None,
     }
 }

@@ -3,29 +3,25 @@
 
 mod fields;
 mod number;
-mod prefix;
 
 ghost use Rattle.std.specs.Prelude.{◌≡◌};
 ghost use Rattle.model.specs.Rules.Line.{parse_line};
 
 use fields::parse_op;
-use model_types::line::Parsed;
-use prefix::starts_with;
+use model_types::line::Line;
 
 // The most lines that are read.
 pub const MAX_LINES: u32 = 60000;
 // The most bytes of a line.
 const MAX_LINE: usize = 64;
 
-// A line, without the byte 10 that ends it, taken apart: a call, or malformed.
-pub fn parse(line: &[u8]) -> Parsed
+// A line, without the byte 10 that ends it, taken apart; none that isn't in form.
+#[tactic(auto, using(crate::proofs::Laws::Line::line_laws))]
+pub fn parse(line: &[u8]) -> Option<Line>
     ensures { result ≡ parse_line line.now }
 {
     if line.len() > MAX_LINE {
-        return Parsed::Malformed;
+        return None;
     }
-    if starts_with(line, 0, b"op=") {
-        return parse_op(line);
-    }
-    Parsed::Malformed
+    parse_op(line.strip_prefix(b"op=")?)
 }

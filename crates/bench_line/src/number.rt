@@ -1,47 +1,36 @@
-// A number at a place of a line.
-ghost use Rattle.std.specs.Prelude.{◌≡◌, ◌≤◌, length};
-ghost use Rattle.bench_line.specs.Number.{digit_at, NumberIs};
+// A number at the front of some bytes.
+ghost use Rattle.std.specs.Prelude.{◌≡◌, false, MatchOption};
+ghost use Rattle.std.specs.List.{prefix_len};
+ghost use Rattle.model.specs.Rules.Line.{is_digit, digits, digits_in_form};
+ghost use Rattle.bench_line.specs.Number.{NumberRead};
 
 // The most digits of a number.
 const MAX_DIGITS: usize = 5;
 
-// A number of 1 to MAX_DIGITS digits with the index after it, or anything else.
-#[derive(Clone, Copy)]
-pub(crate) enum Number {
-    Read { value: u32, next: usize },
-    Malformed,
+// How many digits stand at the front.
+#[tactic(auto, unfolding(model::specs::Rules::Line::is_digit))]
+fn digits_len(bytes: &[u8]) -> usize
+    ensures { result ≡ prefix_len is_digit bytes.now }
+{
+    bytes
+        .iter()
+        .take_while(|byte| byte.is_ascii_digit())
+        .count()
 }
 
-// Whether a digit stands in line at index at.
-fn digit_at(line: &[u8], at: usize) -> bool
-    ensures { result ≡ digit_at line.now at }
+// The number of all digits that stand at the front, 1 to MAX_DIGITS of them, and what follows it. Added up digit by digit, as the
+// definition goes: `parse` takes text alone, and its number is told by another definition.
+#[tactic(auto, using(crate::proofs::Laws::Digits::number_steps))]
+pub(crate) fn number(bytes: &[u8]) -> Option<(u32, &[u8])>
+    ensures { MatchOption result (digits_in_form (digits 0 0 bytes.now) ≡ false) (λ read. NumberRead bytes.now read.0 read.1.now) }
 {
-    if at >= line.len() {
-        return false;
+    let len = digits_len(bytes);
+    if len == 0 || len > MAX_DIGITS {
+        return None;
     }
-    let byte = line[at];
-    if byte < b'0' {
-        return false;
+    let mut value = 0;
+    for byte in &bytes[..len] {
+        value = 10 * value + u32::from(*byte - b'0');
     }
-    byte <= b'9'
-}
-
-// The number of all digits that stand in line from index at on.
-pub(crate) fn number_at(line: &[u8], at: usize) -> Number
-    requires { at ≤ length line.now }
-    ensures { NumberIs line.now at result }
-{
-    let mut value: u32 = 0;
-    let mut next = at;
-    while digit_at(line, next) {
-        if next - at == MAX_DIGITS {
-            return Number::Malformed;
-        }
-        value = 10 * value + (line[next] - b'0') as u32;
-        next += 1;
-    }
-    if next == at {
-        return Number::Malformed;
-    }
-    Number::Read { value, next }
+    Some((value, &bytes[len..]))
 }

@@ -1,3 +1,2 @@
--- The state between two pieces, and a piece.
-pub mod Between
+-- What a piece of input does.
 pub mod Piece

@@ -5,9 +5,9 @@ use Rattle.model.specs.Rules.Bench.{bench_output, max_lines}
 use Rattle.bench_answer.specs.Put.{max_answer}
 use Rattle.bench_step.specs.Output.{State, all_of}
 use Rattle.bench_run.specs.declared.reading.Read.{Read}
-use Rattle.bench_run.specs.declared.Progress.{Progress}
 use Rattle.bench_run.specs.declared.Done.{Done}
-use Rattle.bench_piece.specs.Between.{Between, run_state}
+use Rattle.bench_state.specs.declared.run.Run.{Run}
+use Rattle.bench_piece.specs.Piece.{run_state}
 
 -- after these bytes of input, with these written: whatever follows, the output is what is written and what is still to be
 -- printed
@@ -15,22 +15,21 @@ pub record Reached (bytes written : List ℕ) (s : State) : Type 0 where
   pub same : (more : List ℕ) → bench_output (bytes ++ more) ≡ written ++ all_of s more
 
 -- why no more is read: the last piece read is empty; or whatever follows changes nothing, since no more lines are read; or
--- the bytes of a piece more, at most most of them, might not be counted
+-- the bytes of a piece more, at most most of them, might take the count past 2 ^ 64 - 1
 pub data Stopped (most : ℕ) (account : Read) (bytes : List ℕ) : Type 0 where
   input_ended : account.last ≡ 0 → Stopped most account bytes
   lines_ended : ((more : List ℕ) → bench_output (bytes ++ more) ≡ bench_output bytes) → Stopped most account bytes
   count_ended : 2 ^ 64 - 1 ≤ account.count + most → Stopped most account bytes
 
 -- all pieces are read, and what they print is written
-pub record AllRead (most : ℕ) (after : Progress) (line disk : List ℕ) : Type 0 where
+pub record AllRead (most : ℕ) (run : Run) (done : Done) : Type 0 where
   pub bytes : List ℕ
   pub written : List ℕ
-  pub reached : Reached bytes written (run_state [] after.run line disk)
-  pub between : Between after.run line
-  pub taken : after.read.count ≡ length bytes
-  pub counted : after.written.count ≡ length written
-  pub few : after.written.count ≤ max_answer * max_lines
-  pub stopped : Stopped most after.read bytes
+  pub reached : Reached bytes written (run_state [] run)
+  pub taken : done.read.count ≡ length bytes
+  pub counted : done.written.count ≡ length written
+  pub few : done.written.count ≤ max_answer * max_lines
+  pub stopped : Stopped most done.read bytes
 
 -- all that is written, one piece after the other, is the output of all that is read, at most most bytes at a time
 pub record Whole (most : ℕ) (done : Done) : Type 0 where

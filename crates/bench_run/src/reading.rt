@@ -8,7 +8,7 @@ use std::rt::Stdin;
 #[derive(Clone, Copy)]
 pub(crate) struct Read {
     last: usize,
-    count: u64,
+    count: u128,
 }
 
 impl Read {
@@ -20,23 +20,17 @@ impl Read {
         Read { last: 1, count: 0 }
     }
 
-    // The bytes of the last piece.
-    pub(crate) fn last(self) -> usize
-        ensures { result ≡ self.last }
+    // Reads a piece of standard input to the front of the slice, and gives its length. A failed read counts as the
+    // input's end.
+    pub(crate) fn piece(&mut self, mut stdin: Stdin, input: &mut [u8]) -> usize
+        requires { self.old.count + length input.old < 2 ^ 128 }
+        ensures within { result ≤ length input.new }
+        ensures last { self.new.last ≡ result }
+        ensures counts { self.new.count ≡ self.old.count + result }
     {
-        self.last
-    }
-}
-
-// Reads a piece of standard input to the front of the slice. A failed read counts as the input's end.
-pub(crate) fn read_piece(mut stdin: Stdin, before: Read, input: &mut [u8]) -> Read
-    requires { before.count + length input.old < 2 ^ 64 }
-    ensures within { result.last ≤ length input.new }
-    ensures counts { result.count ≡ before.count + result.last }
-{
-    let n = stdin.read(input).unwrap_or(0);
-    Read {
-        last: n,
-        count: before.count + n as u64,
+        let n = stdin.read(input).unwrap_or(0);
+        self.last = n;
+        self.count += n as u128;
+        n
     }
 }

@@ -1,5 +1,5 @@
 // Writing, and an account of it that no other module can make: each byte handed to write is counted here.
-ghost use Rattle.std.specs.Prelude.{◌≡◌, ◌+◌, ◌^◌, ◌≤◌, ◌<◌, length};
+ghost use Rattle.std.specs.Prelude.{◌≡◌, ◌+◌, ◌^◌, ◌<◌, length};
 
 // Standard output's descriptor.
 const STDOUT: i32 = 1;
@@ -17,16 +17,13 @@ impl Written {
     {
         Written { count: 0 }
     }
-}
 
-// Writes the first n bytes to standard output.
-pub(crate) fn write_piece(before: Written, out: &[u8], n: usize) -> Written
-    requires n_in_bounds { n ≤ length out.now }
-    requires n_bound { before.count + n < 2 ^ 64 }
-    ensures { result.count ≡ before.count + n }
-{
-    io::write_all(STDOUT, &out[..n]);
-    Written {
-        count: before.count + n as u64,
+    // Writes the bytes to standard output.
+    pub(crate) fn piece(&mut self, bytes: &[u8])
+        requires { self.old.count + length bytes.now < 2 ^ 64 }
+        ensures { self.new.count ≡ self.old.count + length bytes.now }
+    {
+        io::write_all(STDOUT, bytes);
+        self.count += bytes.len() as u64;
     }
 }

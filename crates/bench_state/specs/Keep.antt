@@ -1,6 +1,6 @@
 -- What is kept of a line that doesn't end in a piece of input.
-use Rattle.std.specs.Prelude.{ℕ, suc, ◌+◌, ◌≤◌, ◌<◌, ◌≡◌, List, ◌++◌, length, take}
-use Rattle.model.specs.Rules.Line.{max_line}
+use Rattle.std.specs.Prelude.{ℕ, suc, ◌≤◌, ◌<◌, ◌≡◌, List, ◌++◌, length, take, get_or}
+use Rattle.model.specs.Rules.Line.{max_line, newline}
 
 -- the bytes kept: one more than a line may have
 abbrev pub kept : ℕ
@@ -10,11 +10,9 @@ kept = suc max_line
 abbrev pub kept_room : ℕ
 kept_room = suc kept
 
--- as many bytes as fit behind the first len
-pub record Fitting (part : List ℕ) (len count : ℕ) : Type 0 where
-  pub within : count ≤ length part
-  pub few : len + count ≤ kept
-  pub full : count < length part → len + count ≡ kept
+-- no byte 10: what NoEnd of bench_step says, and neither crate stands on the other
+abbrev pub NoNewline : List ℕ → Type 0
+NoNewline bytes = (i : ℕ) → i < length bytes → get_or bytes i 0 ≡ newline → ⊥
 
 -- the part stands behind the first len bytes of the line; of a longer line the first bytes are kept
 pub record Keeps (part line : List ℕ) (len : ℕ) (after : List ℕ) (next : ℕ) : Type 0 where

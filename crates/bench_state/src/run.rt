@@ -1,26 +1,38 @@
 // The state between two pieces of input.
-ghost use Rattle.std.specs.Prelude.{◌≡◌};
-ghost use Rattle.bench_state.specs.Begun.{begun};
+ghost use Rattle.std.specs.Prelude.{◌≡◌, ◌≤◌, suc, take};
+ghost use Rattle.model.specs.Rules.Bench.{max_lines};
+ghost use Rattle.bench_state.specs.Keep.{NoNewline, kept};
 
 use model_types::memory::Memory;
 
-// The memory, how many bytes of a line are kept, and the next line's number.
-#[derive(Clone, Copy)]
+// The memory, the disk, the next line's number, and the bytes of a line that hasn't ended: the first len of line.
+#[derive(Drop)]
 pub struct Run {
     pub memory: Memory,
-    pub len: usize,
+    pub disk: [u32; 386],
     pub number: u32,
+    pub line: [u8; 66],
+    pub len: usize,
+    pub ghost few: { len ≤ kept },
+    // No line after the last that is read is numbered.
+    pub ghost lines: { number ≤ suc max_lines },
+    // No line that is read ends in the bytes kept.
+    pub ghost unended: { number ≤ max_lines → NoNewline (take len line) },
 }
 
 impl Run {
+    ghost use Rattle.bench_state.specs.Begun.{Begun};
+
     // Before the first line.
-    pub fn new() -> Run
-        ensures { result ≡ begun }
+    pub fn new(disk: [u32; 386]) -> Run
+        ensures { Begun disk result }
     {
         Run {
             memory: Memory::zero(),
-            len: 0,
+            disk,
             number: 1,
+            line: [0; 66],
+            len: 0,
         }
     }
 }

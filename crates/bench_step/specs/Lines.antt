@@ -9,10 +9,10 @@ use Rattle.bench_step.specs.Output.{Leads, state_of}
 
 -- the input leads from the state before, in which no byte of a line stands, to that after, in which the rest of the input
 -- stands and no line ends. Each line has a byte at least, and its answer at most max_answer bytes
-pub record Answered (input : List ℕ) (number : ℕ) (memory : Memory) (disk out : List ℕ) (at : ℕ) (after : Lines) (disk-after out-after : List ℕ) : Type 0 where
+pub record Answered (input : List ℕ) (number : ℕ) (memory : Memory) (disk out : List ℕ) (at : ℕ) (after : Lines) (memory-after : Memory) (disk-after out-after : List ℕ) : Type 0 where
   pub leads :
       Leads (state_of (take at out) [] number memory disk) input
-      (state_of (take after.at out-after) (drop after.rest input) after.number after.memory disk-after)
+      (state_of (take after.at out-after) (drop after.rest input) after.number memory-after disk-after)
   pub within : after.rest ≤ length input
   pub unended : after.number ≤ max_lines → NoEnd (drop after.rest input)
   pub onward : number ≤ after.number

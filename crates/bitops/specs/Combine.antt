@@ -1,6 +1,7 @@
 -- Three bitmaps combined word by word.
-use Rattle.std.specs.Prelude.{ℕ, ◌-◌, ◌^◌, List, [], ◌∷◌}
+use Rattle.std.specs.Prelude.{ℕ, ◌-◌, ◌^◌, ◌<◌, List, [], ◌∷◌, get_or}
 use Rattle.std.specs.Int.Bits.{bit_and, bit_or, bit_xor}
+use Rattle.bitmap.specs.Sizes.{bitmap_words}
 use Rattle.bitmap.proofs.Laws.Majority.{majority_word}
 
 -- the majority of COM, SAM and TAM turned, bit by bit
@@ -17,3 +18,8 @@ zip3 f [] ys zs = []
 zip3 f (x ∷ xs) [] zs = []
 zip3 f (x ∷ xs) (y ∷ ys) [] = []
 zip3 f (x ∷ xs) (y ∷ ys) (z ∷ zs) = f x y z ∷ zip3 f xs ys zs
+
+-- each of a bitmap's words related to the three in its place
+abbrev pub Combined : (ℕ → ℕ → ℕ → ℕ → Type 0) → List ℕ → List ℕ → List ℕ → List ℕ → Type 0
+Combined relates xs ys zs words =
+    (k : ℕ) → k < bitmap_words → relates (get_or xs k 0) (get_or ys k 0) (get_or zs k 0) (get_or words k 0)

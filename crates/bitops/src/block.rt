@@ -1,4 +1,5 @@
-// One block of a bitmap: the test of its bit, and its bit set and cleared.
+// One block of a bitmap: the test of its bit, and its bit set and cleared. The block's bound is a clause: a type for it would be made
+// for each number that code computes, and taken apart here.
 ghost use Rattle.std.specs.Prelude.{◌≡◌, ◌<◌, ◌^◌, ◌%◌};
 ghost use Rattle.bitmap.specs.Sizes.{max_blocks, word_bits};
 ghost use Rattle.bitmap.specs.Bits.{bit};
@@ -14,6 +15,7 @@ fn mask(block: u32) -> u32
 }
 
 // Whether the block's bit is 1.
+#[tactic(auto, using(crate::proofs::Laws::Block::has_bit), unfolding(bitmap::specs::Bits::bit))]
 pub fn has(words: &[u32; 128], block: u32) -> bool
     requires { block < max_blocks }
     ensures { result ≡ bit words.now block }
@@ -23,6 +25,7 @@ pub fn has(words: &[u32; 128], block: u32) -> bool
 }
 
 // Sets the block's bit. The others stay.
+#[tactic(auto, unfolding(crate::specs::Block::put_bit))]
 pub fn put(words: &mut [u32; 128], block: u32)
     requires { block < max_blocks }
     ensures { words.new ≡ put_bit words.old block }
@@ -33,6 +36,7 @@ pub fn put(words: &mut [u32; 128], block: u32)
 }
 
 // Clears the block's bit. The others stay.
+#[tactic(auto, unfolding(crate::specs::Block::clear_bit))]
 pub fn clear(words: &mut [u32; 128], block: u32)
     requires { block < max_blocks }
     ensures { words.new ≡ clear_bit words.old block }

@@ -1,3 +1,2 @@
--- Laws of causes.
+-- What the memory's test tells of the available blocks.
 pub mod Available
-pub mod Blocks

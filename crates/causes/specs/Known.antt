@@ -1,9 +1,10 @@
--- Available blocks that may be known already.
-use Rattle.std.specs.Prelude.{ℕ, ◌≤◌, ◌<◌, ◌≡◌, List, length}
+-- Available blocks that may have been counted.
+use Rattle.std.specs.Prelude.{ℕ, ◌≤◌, ◌≡◌, Option, Some, length}
 use Rattle.bitmap.specs.Sizes.{max_blocks}
-use Rattle.bitmap.specs.Blocks.{available_blocks}
+use Rattle.model_types.specs.declared.memory.Memory.{Memory}
+use Rattle.model.specs.Rules.Available.{available}
 
--- they can be counted, and a number other than 0 is theirs
-pub record CanCount (known blocks : ℕ) (sam «com» : List ℕ) : Type 0 where
-  pub few : blocks ≤ max_blocks
-  pub known_is : 0 < known → known ≡ length (available_blocks blocks sam «com»)
+-- they can be counted, and a number that is known is theirs
+pub record CanCount (counted : Option ℕ) (memory : Memory) : Type 0 where
+  pub few : memory.blocks ≤ max_blocks
+  pub counted_is : (n : ℕ) → counted ≡ Some n → n ≡ length (available memory)

@@ -1,35 +1,28 @@
 // Causes of a block to be given back.
-ghost use Rattle.std.specs.Prelude.{◌≡◌, true, ◌≤◌};
+ghost use Rattle.std.specs.Prelude.{◌≡◌, ◌≤◌};
 ghost use Rattle.bitmap.specs.Sizes.{max_blocks};
+ghost use Rattle.model.specs.Rules.First.{first};
 ghost use Rattle.model.specs.Rules.CauseLists.{block_causes};
-ghost use Rattle.verdicts.specs.Verdicts.{is_accepted, then_causes};
+ghost use Rattle.model_types.specs.Answers.{answer};
 
 use bitops::block::has;
+use model_types::answer::Answer;
 use model_types::error::Error;
-use verdicts::verdict::Verdict;
+use model_types::memory::Memory;
 
 // 18, 19 and 20: deallocate.
-pub fn block_causes<'a>(
-    earlier: Verdict,
-    blocks: u32,
-    sam: &'a [u32; 128],
-    com: &'a [u32; 128],
-    block: u32,
-) -> Verdict
-    requires { is_accepted earlier ≡ true → blocks ≤ max_blocks }
-    ensures { result ≡ then_causes earlier (block_causes blocks sam.now «com».now block) }
+pub fn block_causes(memory: &Memory, block: u32) -> Answer<()>
+    requires { memory.now.blocks ≤ max_blocks }
+    ensures { result ≡ answer (first (block_causes memory.now.blocks memory.now.sam.words memory.now.com.words block)) tt }
 {
-    if !earlier.is_accepted() {
-        return earlier;
+    if memory.blocks <= block {
+        return Err(Error::BlockRange);
     }
-    if blocks <= block {
-        return Verdict::Refused(Error::BlockRange);
+    if !has(&memory.sam.words, block) {
+        return Err(Error::BlockFree);
     }
-    if !has(sam, block) {
-        return Verdict::Refused(Error::BlockFree);
+    if !has(&memory.com.words, block) {
+        return Err(Error::BlockFreeing);
     }
-    if !has(com, block) {
-        return Verdict::Refused(Error::BlockFreeing);
-    }
-    Verdict::Accepted
+    Ok(())
 }

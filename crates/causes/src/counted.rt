@@ -1,31 +1,19 @@
 // The available blocks, for the causes that are told by their number.
-ghost use Rattle.std.specs.Prelude.{◌≡◌, true, cond, length};
-ghost use Rattle.bitmap.specs.Bits.{IsBitmap};
-ghost use Rattle.bitmap.specs.Blocks.{available_blocks};
-ghost use Rattle.verdicts.specs.Verdicts.{is_accepted};
+ghost use Rattle.std.specs.Prelude.{◌≡◌, length};
+ghost use Rattle.model.specs.Rules.Available.{available};
 ghost use Rattle.causes.specs.Known.{CanCount};
 
 use counting::count_available;
-use verdicts::verdict::Verdict;
+use model_types::memory::Memory;
 
-// The available blocks, and 0 for a call that is refused already. They are counted only if they aren't known: 0 is not known.
-pub fn available_now<'a>(
-    earlier: Verdict,
-    known: u32,
-    blocks: u32,
-    sam: &'a [u32; 128],
-    com: &'a [u32; 128],
-) -> u32
-    requires bitmap { IsBitmap sam.now }
-    requires bitmap_2 { IsBitmap «com».now }
-    requires can_count { is_accepted earlier ≡ true → CanCount known blocks sam.now «com».now }
-    ensures { result ≡ cond (is_accepted earlier) (length (available_blocks blocks sam.now «com».now)) 0 }
+// They are counted only if they haven't been.
+#[tactic(auto, unfolding(model::specs::Rules::Available::available))]
+pub fn available_now(memory: &Memory, counted: Option<u32>) -> u32
+    requires { CanCount counted memory.now }
+    ensures { result ≡ length (available memory.now) }
 {
-    if !earlier.is_accepted() {
-        return 0;
+    match counted {
+        Some(available) => available,
+        None => count_available(&memory.sam.words, &memory.com.words, memory.blocks),
     }
-    if known != 0 {
-        return known;
-    }
-    count_available(sam, com, blocks)
 }

@@ -1,2 +1,2 @@
--- The verdict, and the blocks touched.
+-- Laws of commit cost.
 pub mod CommitCost

@@ -9,10 +9,9 @@ use bitmap::Bitmap;
 use causes::counted::available_now;
 use causes::grants::cost_causes;
 use counting::count_differing;
-use model_types::answer::{Stored, StoresAnswer};
+use model_types::answer::Answer;
 use model_types::memory::{Memory, Pending};
 use reserves::sums::others;
-use validity::{Numbers, valid};
 use verdicts::ready::open;
 
 // The most stores of a commit with so many blocks touched: it changes no more words than blocks, and no more than there are.
@@ -23,45 +22,17 @@ fn stores_at_most(words: u32, touched: u32) -> u32
     if touched == 0 {
         return 0;
     }
-    let mut changed = words;
-    if touched < words {
-        changed = touched;
-    }
-    Pending::stores_for(changed)
+    Pending::stores_for(touched.min(words))
 }
 
 // Tells what the commit of an open slot may cost with so many blocks more.
-pub fn commit_cost(memory: Memory, slot: u32, count: u32) -> Stored
-    ensures answers { result.answer ≡ commit_cost_answer memory slot count }
-    ensures leaves { result.memory ≡ memory }
+pub fn commit_cost(memory: &Memory, slot: u32, count: u32) -> Answer<u32>
+    ensures { result ≡ commit_cost_answer memory.now slot count }
 {
-    let blocks = memory.blocks;
-    let first = memory.cursor;
-    let sam = memory.sam;
-    let com = memory.com;
-    let slots = memory.slots;
-    let reserves = memory.reserves;
-    let numbers = Numbers {
-        blocks,
-        cursor: first,
-        reserves,
-    };
-    let pending = memory.pending;
-    let owner = slots[pending.owner()];
-    let checked = valid(numbers, &sam.words, &com.words, slots, pending, owner);
-    let at = Bitmap::slot_index(slot);
-    let own = slots[at];
-    let state = own.state;
-    let earlier = open(checked.sound, pending, slot, state);
-    let kept = others(reserves, at);
-    let known = checked.available;
-    let available = available_now(earlier, known, blocks, &sam.words, &com.words);
-    let verdict = cost_causes(earlier, available, count, kept);
-    let mut answer = verdict.stores(0);
-    if verdict.is_accepted() {
-        let words = Bitmap::words_for(blocks);
-        let touched = count_differing(&own.tam.words, &sam.words);
-        answer = StoresAnswer::Due(stores_at_most(words, touched + count));
-    }
-    Stored { answer, memory }
+    let ready = open(memory, slot)?;
+    let available = available_now(memory, ready.counted);
+    let kept = others(&memory.reserves, ready.at);
+    cost_causes(available, count, kept)?;
+    let touched = count_differing(&memory.slots[ready.at].tam.words, &memory.sam.words);
+    Ok(stores_at_most(Bitmap::words_for(memory.blocks), touched + count))
 }

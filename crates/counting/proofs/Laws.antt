@@ -1,5 +1,5 @@
--- Counts of blocks.
+-- How many blocks words have.
 pub mod Count
-pub mod Tally
-pub mod Differing
+pub mod Ones
+pub mod Words
 pub mod Available

@@ -2,10 +2,9 @@
 #![tactic(auto)]
 
 ghost use Rattle.std.specs.Prelude.{◌≡◌, ◌/◌, ◌≤◌, length};
-ghost use Rattle.bitmap.specs.Sizes.{max_blocks, word_bits};
-ghost use Rattle.bitmap.specs.Bits.{IsBitmap};
+ghost use Rattle.bitmap.specs.Sizes.{max_blocks, word_bits, bitmap_words};
 ghost use Rattle.bitmap.specs.Blocks.{available_blocks};
-ghost use Rattle.counting.specs.Count.{IsTally, count_differing, count_from};
+ghost use Rattle.counting.specs.Count.{IsTally, CountsOnes, count_differing, count_from};
 
 use available::available::available_word;
 use bitmap::Bitmap;
@@ -20,17 +19,15 @@ pub struct Tally {
 
 // Counts the blocks that are allocated, being allocated and being freed, in one pass over all words.
 pub fn count_blocks(sam: &[u32; 128], com: &[u32; 128]) -> Tally
-    requires bitmap { IsBitmap sam.now }
-    requires bitmap_2 { IsBitmap «com».now }
     ensures { IsTally sam.now «com».now result }
 {
     let mut allocated = 0;
     let mut allocating = 0;
     let mut freeing = 0;
-    for k in 0..Bitmap::WORDS {
-        allocated += u32::count_ones(sam[k]);
-        allocating += u32::count_ones(!sam[k] & com[k]);
-        freeing += u32::count_ones(sam[k] & !com[k]);
+    for (s, c) in sam.iter().zip(com) {
+        allocated += s.count_ones();
+        allocating += (!s & c).count_ones();
+        freeing += (s & !c).count_ones();
     }
     Tally {
         allocated,
@@ -39,43 +36,43 @@ pub fn count_blocks(sam: &[u32; 128], com: &[u32; 128]) -> Tally
     }
 }
 
-// The number of blocks at which two bitmaps differ, in one pass over all words.
-pub fn count_differing(left: &[u32; 128], right: &[u32; 128]) -> u32
-    requires bitmap { IsBitmap left.now }
-    requires bitmap_2 { IsBitmap right.now }
-    ensures { result ≡ count_differing left.now right.now }
+// The number of bits in the words that a function makes of the words of two lists, place by place, in one pass.
+fn count<F: Fn(u32, u32) -> u32>(left: &[u32], right: &[u32], word: F) -> u32
+    requires few { length left.now ≤ bitmap_words }
+    requires callable { F.IsAlwaysCallable word }
+    ensures { CountsOnes (F.post word) left.now right.now result }
 {
     let mut count = 0;
-    for i in 0..Bitmap::WORDS {
-        count += u32::count_ones(left[i] ^ right[i]);
+    for (a, b) in left.iter().zip(right) {
+        count += word(*a, *b).count_ones();
     }
     count
 }
 
+// The number of blocks at which two bitmaps differ.
+pub fn count_differing(left: &[u32; 128], right: &[u32; 128]) -> u32
+    ensures { result ≡ count_differing left.now right.now }
+{
+    count(left, right, |left, right| left ^ right)
+}
+
 // The number of available blocks after the words that the volume fills: those of the word that it fills in part.
 fn count_rest(sam: &[u32; 128], com: &[u32; 128], blocks: u32) -> u32
-    requires bitmap { IsBitmap sam.now }
-    requires bitmap_2 { IsBitmap «com».now }
-    requires blocks_le_max_blocks { blocks ≤ max_blocks }
+    requires { blocks ≤ max_blocks }
     ensures { result ≡ count_from blocks sam.now «com».now (blocks / word_bits) }
 {
     if blocks % Bitmap::WORD_BITS == 0 {
         return 0;
     }
-    u32::count_ones(available_word(sam, com, blocks, (blocks / Bitmap::WORD_BITS) as usize))
+    available_word(sam, com, blocks, (blocks / Bitmap::WORD_BITS) as usize).count_ones()
 }
 
-// The number of available blocks of a volume: those of the words that it fills, in one pass, and those of the rest.
+// The number of available blocks of a volume: those of the words that it fills, and those of the rest.
 pub fn count_available(sam: &[u32; 128], com: &[u32; 128], blocks: u32) -> u32
-    requires bitmap { IsBitmap sam.now }
-    requires bitmap_2 { IsBitmap «com».now }
-    requires blocks_le_max_blocks { blocks ≤ max_blocks }
+    requires { blocks ≤ max_blocks }
     ensures { result ≡ length (available_blocks blocks sam.now «com».now) }
 {
     let whole = (blocks / Bitmap::WORD_BITS) as usize;
-    let mut count = 0;
-    for k in 0..whole {
-        count += u32::count_ones(!(sam[k] | com[k]));
-    }
+    let count = count(&sam[..whole], &com[..whole], |sam, com| !(sam | com));
     count + count_rest(sam, com, blocks)
 }

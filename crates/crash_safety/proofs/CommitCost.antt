@@ -34,7 +34,7 @@ use Rattle.crash_safety.proofs.Works.{after, after_all, works_of, run-worked}
 use Rattle.crash_safety.proofs.Keeps.{work-keeps, run-keeps, begins-formatted}
 use Rattle.crash_safety.proofs.InOrder.Always.{stays-in-use, valid-uses, run-in-order}
 use Rattle.model.proofs.Laws.Touched.TouchedBlocks.{changed-touched, changed-words}
-use Rattle.model.proofs.Laws.Calls.Answered.{due-answered}
+use Rattle.model.proofs.Laws.Calls.Answered.{told-answer}
 use Rattle.model.proofs.Laws.Promises.CommitCost.{due-within, commit-cost-kept}
 use Rattle.model.proofs.Laws.Touched.TouchedBy.{active-touched, Touches, pending-touches, committed-touches}
 
@@ -136,7 +136,7 @@ unfolding commit_cost_answer
 commit-cost-kept-in-use blocks some_blocks few disk size calls s count cost answered =
     let first : World = begin (format_disk disk blocks) in
     let memory : Memory = (run calls first).memory in
-    let told = due-answered (commit_cost_error memory s count) (commit_cost memory s count) cost answered in
+    let told = told-answer (commit_cost_error memory s count) (commit_cost memory s count) cost answered in
     let is_valid = (commit-cost-accepted memory s count told.0).ready.is_valid in
     commit-cost-kept memory is_valid
     ((run-keeps calls first (begins-formatted blocks some_blocks few disk size)).related is_valid).sam
@@ -148,8 +148,8 @@ commit-cost-holds blocks some_blocks few disk size calls s count cost answered l
     let first : World = begin (format_disk disk blocks) in
     let w : World = run calls first in
     let begins = begins-formatted blocks some_blocks few disk size in
-    let cost-told = due-answered (commit_cost_error w.memory s count) (commit_cost w.memory s count) cost answered in
-    let commit-told = due-answered (commit_error (run later w).memory s) (commit_due (run later w).memory s) stores commits in
+    let cost-told = told-answer (commit_cost_error w.memory s count) (commit_cost w.memory s count) cost answered in
+    let commit-told = told-answer (commit_error (run later w).memory s) (commit_due (run later w).memory s) stores commits in
     let a = commit-cost-accepted w.memory s count cost-told.0 in
     let used = valid-uses w (run-in-order calls first begins (inl refl)) a.ready.is_valid in
     rw (← cost-told.1, ← commit-told.1)

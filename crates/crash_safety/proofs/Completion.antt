@@ -18,7 +18,7 @@ use Rattle.model_types.specs.declared.memory.Pending.{Pending}
 use Rattle.model_types.specs.declared.memory.Pending.TheVariants.{Nothing, Commit}
 use Rattle.model_types.specs.Memory.{with_pending, idle_slot}
 use Rattle.model_types.specs.Pending.{is_nothing}
-use Rattle.model_types.specs.Answers.{due, stores_number}
+use Rattle.model_types.specs.Answers.{answer, answer_number}
 use Rattle.model.specs.Rules.First.{unless_refused}
 use Rattle.model.specs.Rules.Stores.{Store, writes}
 use Rattle.model.specs.Rules.Commit.{committed_sam, commit_due, refreshed, committed}
@@ -190,10 +190,10 @@ module _ (memory : Memory) (disk : List ℕ) (s : ℕ) where
   commit_of = Commit s 0 (commit_due memory s)
 
   commit-carried : commit_error memory s ≡ none → carried_out (commit_call s) memory disk ≡ completed (begun memory commit_of) disk
-  unfolding carried_out outcome commit_memory commit_answer unless_refused due
+  unfolding carried_out outcome commit_memory commit_answer unless_refused answer
   commit-carried e =
       ap (λ (x : Option Error).
-      cond (eqb (stores_number (due x (commit_due memory s))) 0)
+      cond (eqb (answer_number (answer x (commit_due memory s))) 0)
       (completed (unless_refused x (committing memory s) memory) disk)
       (record { memory = unless_refused x (committing memory s) memory; disk = disk })) e
       ∙ ap (λ (m : Memory). completed m disk) (committing-begun memory s)

@@ -12,7 +12,7 @@ use Rattle.bitmap.specs.Blocks.{scan, from, allocated_blocks, is_available, avai
 use Rattle.bitmap.specs.Extents.{adjoining, is_start, starts, distance, nearer, nearest_of, nearest}
 use Rattle.bitmap.specs.Round.{round_from, wrapped, after_last}
 use Rattle.bitmap.specs.Majority.{majority}
-use Rattle.model_types.specs.Answers.{done, granted, due, counted}
+use Rattle.model_types.specs.Answers.{answer}
 use Rattle.model.specs.Rules.Calls.Allocate.{allocate_error, met, first_met, taking, allocate_answer, allocate_memory, allocate_list}
 use Rattle.model.specs.Rules.Calls.AllocateExtent.{allocate_extent_error, nearest_extent, allocate_extent_answer, allocate_extent_memory, allocate_extent_list}
 use Rattle.model.specs.Rules.Touched.{touched, touched_blocks, took, taken_blocks}
@@ -367,7 +367,7 @@ expected =
     ∷ []
 
 computed : same_rows (histories ++ premises) (expected ++ premises_expected) ≡ true
-unfolding same_rows expected histories premises premises_expected passing three idle_calls busy_calls recovered cut_behind_point pending_commit touched_rows world_after list64 moves_cursor changes_reservation changes_together settles ends_waiting ends_use begins_pending blocks_touched touches_for touches_of changed worked worked_disk works works_in some_work bearing after shown slot_sets follow before_point after_point retaken reopened borrowed dropped adjoined spared revoked carried set_aside lowered crashed_twice grow list store_calls xor is_set bit word_of words_of bitmap_of no_bits_from scan from allocated_blocks is_available available_blocks member all_below majority done granted due counted commit_cost_error touched_blocks cost_for commit_cost commit_cost_answer allocate_error round_from wrapped after_last met first_met taking allocate_answer allocate_memory allocate_list adjoining is_start starts distance nearer nearest_of nearest extent_starts no_extent allocate_extent_error nearest_extent allocate_extent_answer allocate_extent_memory allocate_extent_list commit_error committing commit_answer commit_memory deallocate_error freeing deallocate_answer deallocate_memory format_error formatted format_answer format_disk open_error recovery_due recovery_pending opened open_answer open_memory precommit_error precommitting precommit_answer precommit_memory drop_error drop_answer drop_memory revoke_error revoke_answer revoke_memory rolled_back_com rolled_back start_error started start_answer start_memory status_error status_counts status_answer allocated active_slots store_error still_due advanced next_stored store_answer store_memory store_disk reserve_error reserve_answer reserve_memory total_reserved others_reserved drawing put_back used_up reserving memory_invalid disk_length_wrong disk_blocks_wrong disk_bitmap_wrong disk_log_wrong disk_mismatched blocks_out_of_range is_nothing nothing_pending work_pending slot_out_of_range slot_active slot_inactive slot_precommitted slot_not_precommitted count_out_of_range count_too_large list_short available too_few_available block_out_of_range block_free block_freeing over_reserved reserved_for_others committed_sam entries_of changed_of commit_due refreshed committed length_in entries_in log_entries entries_valid log_valid durable entries_agree recovery_matches disk_matches first_or first unless_refused touched outcome stores_done stores_due one_more_done finished begun writes changes_from log_stores checkpoint_with journal_with checkpoint_stores commit_stores blocks_in_range count_in_range slot_in_range same_words all_slots slot_valid touches touches_agree took taken_blocks reservations_fit drawn_fit is_quiet pending_valid valid crashed_sets crashed has_word words_from sets_words without takes frees counts commits counts_store stores entered enter enter_all events step run word_one_valid stores_of next_disk image_matches stores_match parts_match new_sam
+unfolding same_rows expected histories premises premises_expected passing three idle_calls busy_calls recovered cut_behind_point pending_commit touched_rows world_after list64 moves_cursor changes_reservation changes_together settles ends_waiting ends_use begins_pending blocks_touched touches_for touches_of changed worked worked_disk works works_in some_work bearing after shown slot_sets follow before_point after_point retaken reopened borrowed dropped adjoined spared revoked carried set_aside lowered crashed_twice grow list store_calls xor is_set bit word_of words_of bitmap_of no_bits_from scan from allocated_blocks is_available available_blocks member all_below majority answer commit_cost_error touched_blocks cost_for commit_cost commit_cost_answer allocate_error round_from wrapped after_last met first_met taking allocate_answer allocate_memory allocate_list adjoining is_start starts distance nearer nearest_of nearest extent_starts no_extent allocate_extent_error nearest_extent allocate_extent_answer allocate_extent_memory allocate_extent_list commit_error committing commit_answer commit_memory deallocate_error freeing deallocate_answer deallocate_memory format_error formatted format_answer format_disk open_error recovery_due recovery_pending opened open_answer open_memory precommit_error precommitting precommit_answer precommit_memory drop_error drop_answer drop_memory revoke_error revoke_answer revoke_memory rolled_back_com rolled_back start_error started start_answer start_memory status_error status_counts status_answer allocated active_slots store_error still_due advanced next_stored store_answer store_memory store_disk reserve_error reserve_answer reserve_memory total_reserved others_reserved drawing put_back used_up reserving memory_invalid disk_length_wrong disk_blocks_wrong disk_bitmap_wrong disk_log_wrong disk_mismatched blocks_out_of_range is_nothing nothing_pending work_pending slot_out_of_range slot_active slot_inactive slot_precommitted slot_not_precommitted count_out_of_range count_too_large list_short available too_few_available block_out_of_range block_free block_freeing over_reserved reserved_for_others committed_sam entries_of changed_of commit_due refreshed committed length_in entries_in log_entries entries_valid log_valid durable entries_agree recovery_matches disk_matches first_or first unless_refused touched outcome stores_done stores_due one_more_done finished begun writes changes_from log_stores checkpoint_with journal_with checkpoint_stores commit_stores blocks_in_range count_in_range slot_in_range same_words all_slots slot_valid touches touches_agree took taken_blocks reservations_fit drawn_fit is_quiet pending_valid valid crashed_sets crashed has_word words_from sets_words without takes frees counts commits counts_store stores entered enter enter_all events step run word_one_valid stores_of next_disk image_matches stores_match parts_match new_sam
 computed = refl
 
 pub histories-found : histories ++ premises ≡ expected ++ premises_expected

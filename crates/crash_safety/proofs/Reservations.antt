@@ -14,7 +14,7 @@ use Rattle.model.specs.Rules.Calls.Reserve.{reserve_error, reserve_answer}
 use Rattle.model.specs.Rules.Outcome.{Call, outcome, reserve_call}
 use Rattle.model.specs.Rules.Work.{Work, crash_work}
 use Rattle.model.specs.Promises.Reservations.{changes_reservation}
-use Rattle.model.proofs.Laws.Calls.Answered.{done-answered}
+use Rattle.model.proofs.Laws.Calls.Answered.{told-done}
 use Rattle.model.proofs.Laws.Calls.Accepted.{reserve-accepted}
 use Rattle.model.proofs.Laws.Promises.Reservations.{may-always-allocate, reserve-sets}
 use Rattle.model.proofs.Laws.Promises.ReservationStays.{eight-worked, reservation-worked}
@@ -67,7 +67,7 @@ reserve-holds blocks some_blocks few disk size before s reservation answered cal
     let w : World = run before first in
     let begins = begins-formatted blocks some_blocks few disk size in
     let i : Invariant w = run-keeps before first begins in
-    let a = reserve-accepted w.memory s reservation (done-answered (reserve_error w.memory s reservation) answered) in
+    let a = reserve-accepted w.memory s reservation (told-done (reserve_error w.memory s reservation) answered) in
     let used = valid-uses w (run-in-order before first begins (inl refl)) a.ready.is_valid in
     let next : World = step (reserve_call s reservation) w in
     let next-used : InUse next = ⊎_elim (λ e. absurd (true≢false (cc))) (λ u. u) (step-uses (reserve_call s reservation) w i used) in

@@ -11,7 +11,7 @@ use Rattle.bitmap.specs.Blocks.{member}
 use Rattle.model_types.specs.declared.error.Error.{Error}
 use Rattle.model_types.specs.declared.memory.Memory.{Memory}
 use Rattle.model_types.specs.declared.memory.Pending.TheVariants.{Nothing}
-use Rattle.model_types.specs.Answers.{due, stores_value}
+use Rattle.model_types.specs.Answers.{answer, answer_value}
 use Rattle.model.specs.Rules.Pending.{stores_done, stores_due, stores_left}
 use Rattle.model.specs.Rules.Disk.{disk_bitmap, log_length, durable, disk_matches}
 use Rattle.model.specs.Rules.Calls.Format.{format_disk}
@@ -36,11 +36,11 @@ recovery-left zero = refl
 recovery-left (suc p) = omega arith
 
 open-left : (disk : List ℕ) → open_error disk ≡ none → stores_left (open_memory disk).pending ≡ open_due disk
-unfolding opened_memory open_answer due
+unfolding opened_memory open_answer answer
 open-left disk e =
     ap (λ (m : Memory). stores_left m.pending) (open-memory disk e)
     ∙ recovery-left (log_length disk)
-    ∙ sym (ap (λ (x : Option Error). stores_value (due x (recovery_due (log_length disk)))) e)
+    ∙ sym (ap (λ (x : Option Error). answer_value (answer x (recovery_due (log_length disk)))) e)
 
 module _ (w : World) (i : Invariant w) where
   -- the world just opened

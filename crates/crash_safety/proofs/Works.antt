@@ -12,7 +12,7 @@ use Rattle.model_types.specs.declared.error.Error.{Error}
 use Rattle.model_types.specs.declared.memory.Memory.{Memory}
 use Rattle.model_types.specs.declared.memory.Pending.{Pending}
 use Rattle.model_types.specs.declared.memory.Pending.TheVariants.{Nothing, Commit, Recovery}
-use Rattle.model_types.specs.Answers.{granted, grant_number, grant_value}
+use Rattle.model_types.specs.Answers.{answer, answer_number, answer_value}
 use Rattle.model_types.specs.Errors.{code}
 use Rattle.model.specs.Rules.First.{unless_refused}
 use Rattle.model.specs.Rules.Commit.{commit_due}
@@ -29,7 +29,7 @@ use Rattle.model.specs.Rules.Calls.Store.{store_answer}
 use Rattle.model.specs.Rules.Calls.Reserve.{reserve_answer}
 use Rattle.model.specs.Rules.Outcome.{Call, Outcome, outcome, open_call, start_call, allocate_call, allocate_extent_call, deallocate_call, precommit_call, commit_call, drop_call, revoke_call, store_call, status_call, commit_cost_call, reserve_call, crash_call}
 use Rattle.model.specs.Rules.Work.{Change, start_change, precommit_change, drop_change, revoke_change, grant_change, free_change, reserve_change, Work, open_work, crash_work, store_work, begin_work, change_work, worked, worked_disk, worked_all, works, works_in}
-use Rattle.model.proofs.Laws.Memory.Numbers.{number_of, code-positive, done-number, grant-number, stores-number}
+use Rattle.model.proofs.Laws.Memory.Numbers.{number_of, code-positive, answer-number}
 use Rattle.model.proofs.Laws.Works.Progress.{either}
 use Rattle.model.proofs.Laws.Memory.Granting.{Grants, allocate-grants, allocate-extent-grants}
 use Rattle.model.proofs.Laws.Works.Work.{EachWork, each-fails, Fails, Made, SomeMade, does, calls-made}
@@ -138,15 +138,15 @@ module _ (ledger : Ledger) where
         kind = allocating;
         slot = s;
         block = 0;
-        answer = grant_number (granted error (get_or blocks 0 0));
-        value = grant_value (granted error (get_or blocks 0 0));
+        answer = answer_number (answer error (get_or blocks 0 0));
+        value = answer_value (answer error (get_or blocks 0 0));
         listed = take count (unless_refused error (blocks ++ drop count list) list);
       })
       ledger
       ≡ told_all (unless_refused error (change_work s (grant_change blocks) ∷ []) []) ledger
   unfolding told entered
   unless-granted memory s count blocks list error grants =
-      unless error _ (change_work s (grant_change blocks)) (grant-number error (get_or blocks 0 0))
+      unless error _ (change_work s (grant_change blocks)) (answer-number error (get_or blocks 0 0))
       (λ e. ap (λ (blocks : List ℕ). takes ledger s blocks) (listed error count blocks list e (grants e).size))
 
   -- an open is a crash first
@@ -201,22 +201,22 @@ ledger-told : (call : Call) (memory : Memory) (disk : List ℕ) → Tells call m
 unfolding works told told_all events enter_all entered outcome open_answer start_answer allocate_answer allocate_list allocate_extent_answer allocate_extent_list deallocate_answer precommit_answer commit_answer drop_answer revoke_answer store_answer reserve_answer
 ledger-told open_call memory disk ledger =
     ap (enter (event_of opening 0 0 (outcome open_call memory disk))) (enter-crash ledger)
-    ∙ unless-opened ledger (open_error disk) (event_of opening 0 0 (outcome open_call memory disk)) (stores-number _ _) refl
-ledger-told (start_call s) memory disk ledger = unless ledger _ _ (change_work s start_change) (done-number _) (λ _. refl)
+    ∙ unless-opened ledger (open_error disk) (event_of opening 0 0 (outcome open_call memory disk)) (answer-number _ _) refl
+ledger-told (start_call s) memory disk ledger = unless ledger _ _ (change_work s start_change) (answer-number _ _) (λ _. refl)
 ledger-told (allocate_call s count list) memory disk ledger =
     unless-granted ledger memory s count (first_met memory count) list (allocate_error memory s count list) (allocate-grants memory s count list)
 ledger-told (allocate_extent_call s count near list) memory disk ledger =
     unless-granted ledger memory s count (nearest_extent memory count near) list (allocate_extent_error memory s count near list)
     (allocate-extent-grants memory s count near list)
-ledger-told (deallocate_call s block) memory disk ledger = unless ledger _ _ (change_work s (free_change block)) (done-number _) (λ _. refl)
-ledger-told (precommit_call s) memory disk ledger = unless ledger _ _ (change_work s precommit_change) (stores-number _ _) (λ _. refl)
-ledger-told (commit_call s) memory disk ledger = unless ledger _ _ (begin_work (Commit s 0 (commit_due memory s))) (stores-number _ _) (λ _. refl)
-ledger-told (drop_call s) memory disk ledger = unless ledger _ _ (change_work s drop_change) (done-number _) (λ _. refl)
-ledger-told (revoke_call s) memory disk ledger = unless ledger _ _ (change_work s revoke_change) (stores-number _ _) (λ _. refl)
-ledger-told store_call memory disk ledger = unless ledger _ _ store_work (stores-number _ _) (λ _. refl)
+ledger-told (deallocate_call s block) memory disk ledger = unless ledger _ _ (change_work s (free_change block)) (answer-number _ _) (λ _. refl)
+ledger-told (precommit_call s) memory disk ledger = unless ledger _ _ (change_work s precommit_change) (answer-number _ _) (λ _. refl)
+ledger-told (commit_call s) memory disk ledger = unless ledger _ _ (begin_work (Commit s 0 (commit_due memory s))) (answer-number _ _) (λ _. refl)
+ledger-told (drop_call s) memory disk ledger = unless ledger _ _ (change_work s drop_change) (answer-number _ _) (λ _. refl)
+ledger-told (revoke_call s) memory disk ledger = unless ledger _ _ (change_work s revoke_change) (answer-number _ _) (λ _. refl)
+ledger-told store_call memory disk ledger = unless ledger _ _ store_work (answer-number _ _) (λ _. refl)
 ledger-told status_call memory disk ledger = asked-nothing 0 (outcome status_call memory disk) ledger
 ledger-told (commit_cost_call s count) memory disk ledger = asked-nothing s (outcome (commit_cost_call s count) memory disk) ledger
-ledger-told (reserve_call s reservation) memory disk ledger = unless ledger _ _ (change_work s (reserve_change reservation)) (done-number _) (λ _. refl)
+ledger-told (reserve_call s reservation) memory disk ledger = unless ledger _ _ (change_work s (reserve_change reservation)) (answer-number _ _) (λ _. refl)
 ledger-told crash_call memory disk ledger = enter-crash ledger
 
 -- ---- the world, by works

@@ -2,7 +2,7 @@
 -- at most that many." Here whatever calls come in between, of this slot and of all others.
 use Rattle.std.specs.Prelude.{ℕ, ◌+◌, ◌≤◌, ◌≡◌, Bool, true, false, cond, List, [], ◌∷◌, eqb}
 use Rattle.model_types.specs.declared.memory.Pending.{Pending}
-use Rattle.model_types.specs.declared.answer.StoresAnswer.{StoresAnswer}
+use Rattle.model.specs.Types.{Ok}
 use Rattle.model.specs.Rules.Calls.Commit.{commit_answer}
 use Rattle.model.specs.Rules.Calls.CommitCost.{commit_cost_answer}
 use Rattle.model.specs.Promises.CommitCost.{CostKept}
@@ -40,13 +40,13 @@ ends_use (change_work t change) pending = false
 -- and the commit answers at most so many
 abbrev pub CommitCostKeptInUse : Type 0
 CommitCostKeptInUse =
-    AfterEvery (λ w. (s count cost : ℕ) → commit_cost_answer w.memory s count ≡ StoresAnswer.Due cost → CostKept w.memory s count cost)
+    AfterEvery (λ w. (s count cost : ℕ) → commit_cost_answer w.memory s count ≡ Ok cost → CostKept w.memory s count cost)
 
 -- and after every list of calls: where commit cost answers so many for a slot and a count, and calls of any slots follow, no open and no
 -- crash, that touch no more than the count for this slot, then its commit, if it is accepted, answers at most so many
 abbrev pub CommitCostHolds : Type 0
 CommitCostHolds =
     AfterEvery (λ w.
-    (s count cost : ℕ) → commit_cost_answer w.memory s count ≡ StoresAnswer.Due cost
+    (s count cost : ℕ) → commit_cost_answer w.memory s count ≡ Ok cost
     → (calls : List Call) → Without ends_use calls w → touches_in s calls w ≤ count
-    → (stores : ℕ) → commit_answer (run calls w).memory s ≡ StoresAnswer.Due stores → stores ≤ cost)
+    → (stores : ℕ) → commit_answer (run calls w).memory s ≡ Ok stores → stores ≤ cost)

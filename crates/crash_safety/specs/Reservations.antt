@@ -6,7 +6,7 @@ use Rattle.bitmap.specs.Sizes.{slot_count}
 use Rattle.model_types.specs.declared.memory.Memory.{Memory}
 use Rattle.model_types.specs.declared.memory.SlotState.TheVariants.{Idle}
 use Rattle.model_types.specs.declared.memory.Pending.{Pending}
-use Rattle.model_types.specs.declared.answer.Answer.{Answer}
+use Rattle.model.specs.Types.{Ok}
 use Rattle.model_types.specs.Memory.{slot_at, reserve_at}
 use Rattle.model.specs.Rules.Pending.{is_commit_of}
 use Rattle.model.specs.Rules.Calls.Reserve.{reserve_answer}
@@ -44,7 +44,7 @@ pub record Has (s reservation : ℕ) (w : World) : Type 0 where
 -- and after every list of calls: where a slot is given a reservation, it has it after all such calls
 abbrev pub ReserveHolds : Type 0
 ReserveHolds =
-    AfterEvery (λ w. (s reservation : ℕ) → reserve_answer w.memory s reservation ≡ Answer.Done
+    AfterEvery (λ w. (s reservation : ℕ) → reserve_answer w.memory s reservation ≡ Ok tt
     → (calls : List Call) → Without (changes_reservation s) calls (step (reserve_call s reservation) w)
     → Has s reservation (run calls (step (reserve_call s reservation) w)))
 

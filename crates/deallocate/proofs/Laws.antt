@@ -1,2 +1,2 @@
--- The verdict, and what the call leaves.
+-- The causes of a call that gives a block back, and the bitmaps that it leaves.
 pub mod Deallocate

@@ -1,7 +1,6 @@
 -- Tests, the log, the bitmap, replay, what functions are given, and changed words.
 pub mod Tests
 pub mod Log
-pub mod Sam
 pub mod Replay
 pub mod Given
 pub mod ChangedWord

@@ -45,10 +45,8 @@ impl Phase {
         ensures { result ≡ log_length_in self changed }
     {
         match self {
-            Phase::Log => 0,
-            Phase::Point => 0,
-            Phase::Word(_) => changed,
-            Phase::Closing => changed,
+            Phase::Log | Phase::Point => 0,
+            Phase::Word(_) | Phase::Closing => changed,
         }
     }
 
@@ -57,8 +55,7 @@ impl Phase {
         ensures { result ≡ checkpointed_in self changed }
     {
         match self {
-            Phase::Log => 0,
-            Phase::Point => 0,
+            Phase::Log | Phase::Point => 0,
             Phase::Word(i) => i,
             Phase::Closing => changed,
         }

@@ -1,5 +1,5 @@
 -- The starts of extents as the bits of words.
-use Rattle.std.specs.Prelude.{ℕ, ◌+◌, ◌*◌, ◌^◌, ◌≤◌, ◌<◌, ◌≡◌, Bool, false, ◌&&◌, List, length, get_or}
+use Rattle.std.specs.Prelude.{ℕ, ◌+◌, ◌*◌, ◌≤◌, ◌≡◌, Bool, false, ◌&&◌, List, get_or}
 use Rattle.bitmap.specs.Sizes.{max_blocks, max_count, word_bits, bitmap_words}
 use Rattle.bitmap.specs.Bits.{bit}
 use Rattle.bitmap.specs.Blocks.{is_available}
@@ -9,20 +9,13 @@ use Rattle.bitmap.specs.Extents.{is_start}
 abbrev pub start_words : ℕ
 start_words = bitmap_words + 1
 
--- so many words of 32 bits
-pub record AreWords (words : List ℕ) : Type 0 where
-  pub size : length words ≡ start_words
-  pub small : (k : ℕ) → get_or words k 0 < 2 ^ word_bits
-
--- so many words of zeros
-pub record AreZeros (words : List ℕ) : Type 0 where
-  pub size : length words ≡ start_words
-  pub zero : (k : ℕ) → get_or words k 0 ≡ 0
+-- words of zeros
+abbrev pub AreZeros : List ℕ → Type 0
+AreZeros words = (k : ℕ) → get_or words k 0 ≡ 0
 
 -- words whose bits are the test's
-pub record HaveBits (test : ℕ → Bool) (words : List ℕ) : Type 0 where
-  pub are : AreWords words
-  pub bits : (b : ℕ) → bit words b ≡ test b
+abbrev pub HaveBits : (ℕ → Bool) → List ℕ → Type 0
+HaveBits test words = (b : ℕ) → bit words b ≡ test b
 
 -- words whose bits are the starts of extents of n available blocks in a volume of m
 abbrev pub AreStarts : ℕ → List ℕ → List ℕ → ℕ → List ℕ → Type 0
@@ -48,7 +41,6 @@ pub record CanFind (m count : ℕ) (words : List ℕ) : Type 0 where
 pub record CanNarrow (k shift : ℕ) (words : List ℕ) : Type 0 where
   pub within : k ≤ bitmap_words
   pub short : shift ≤ word_bits
-  pub are : AreWords words
   pub none : NoneFrom (word_bits * k) words
 
 -- words in which a bit stays where the one so far above it is 1 too

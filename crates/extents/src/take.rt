@@ -16,6 +16,7 @@ pub fn take_extent(
     ensures { TakesExtent start count «com».old tam.old list.old
         «com».new tam.new list.new }
 {
+    // No plainer without a count: n is a block's distance from start, and its place in the list.
     for n in 0..count {
         let block = start + n;
         block::put(com, block);

@@ -6,7 +6,9 @@
 mod made;
 
 use made::make_twice;
-use printing::{end_line, flush, put_number};
+use printing::Output;
+use script::Call;
+use std::fmt::Write;
 
 // Standard input's descriptor.
 const STDIN: i32 = 0;
@@ -14,9 +16,11 @@ const STDIN: i32 = 0;
 fn main() {
     let mut input = [0u8; 3];
     io::read_full(STDIN, &mut input);
-    let code = make_twice(input[0], input[1], input[2]);
-    let mut out = [0u8; 65536];
-    let number = put_number(&mut out, 0, code as u64);
-    let end = end_line(&mut out, number);
-    flush(&out, end);
+    let slot = u32::from(input[1]);
+    let n = u32::from(input[2]);
+    let code = Call::try_from(input[0]).map_or(0, |call| make_twice(call, slot, n));
+    let mut out = Output::new();
+    // Putting text never fails: what can't be written is lost.
+    let _ = writeln!(out, "{code}");
+    out.flush();
 }

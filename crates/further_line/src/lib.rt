@@ -2,137 +2,78 @@
 #![tactic(auto)]
 
 pub mod asked;
-mod numbers;
+mod number;
 
 use asked::{Further, Overwrite};
-use check::same;
-use numbers::{Numbers, numbers_from};
+use model_types::memory::{Pending, SlotState};
+use number::number;
 
-// A word with no number.
-fn zero(name: &[u8]) -> Further {
-    if same(name, b"show") {
-        return Further::Show;
+// A slot's state: idle (0), open (1) or precommitted (2). A TryFrom would stand with the type: these numbers are `inspect`'s alone.
+fn state_of(code: u32) -> Option<SlotState> {
+    match code {
+        0 => Some(SlotState::Idle),
+        1 => Some(SlotState::Open),
+        2 => Some(SlotState::Precommitted),
+        _ => None,
     }
-    Further::Malformed
 }
 
-// A word with one number.
-fn one(name: &[u8], number: u32) -> Further {
-    if same(name, b"length") {
-        return Further::Length { words: number };
+// Pending work: nothing (0), a commit (1) or a recovery (2).
+fn pending_of(kind: u32, slot: u32, done: u32, due: u32) -> Option<Pending> {
+    match kind {
+        0 => Some(Pending::Nothing),
+        1 => Some(Pending::Commit { slot, done, due }),
+        2 => Some(Pending::Recovery { done, due }),
+        _ => None,
     }
-    if same(name, b"blocks") {
-        return Further::Memory(Overwrite::Blocks { blocks: number });
-    }
-    if same(name, b"cursor") {
-        return Further::Memory(Overwrite::Cursor { block: number });
-    }
-    if same(name, b"list") {
-        return Further::List { places: number };
-    }
-    Further::Malformed
 }
 
-// A word with a slot and one number more.
-fn slot_and(name: &[u8], slot: u32, number: u32) -> Further {
-    if same(name, b"state") {
-        return Further::Memory(Overwrite::State { slot, code: number });
-    }
-    if same(name, b"reservation") {
-        return Further::Memory(Overwrite::Reservation {
+// A word and its numbers that ask for a part of the memory to be overwritten.
+fn overwrite_of(name: &[u8], numbers: &[u32]) -> Option<Overwrite> {
+    let part = match (name, numbers) {
+        (b"blocks", &[blocks]) => Overwrite::Blocks { blocks },
+        (b"cursor", &[block]) => Overwrite::Cursor { block },
+        (b"sam", &[index, word]) => Overwrite::Sam { index, word },
+        (b"com", &[index, word]) => Overwrite::Com { index, word },
+        (b"tam", &[slot, index, word]) => Overwrite::Tam { slot, index, word },
+        (b"state", &[slot, code]) => Overwrite::State {
             slot,
-            blocks: number,
-        });
-    }
-    if same(name, b"drawn") {
-        return Further::Memory(Overwrite::Drawn {
-            slot,
-            blocks: number,
-        });
-    }
-    if same(name, b"cost") {
-        return Further::Cost {
-            slot,
-            count: number,
-        };
-    }
-    if same(name, b"reserve") {
-        return Further::Reserve {
-            slot,
-            blocks: number,
-        };
-    }
-    Further::Malformed
+            state: state_of(code)?,
+        },
+        (b"reservation", &[slot, blocks]) => Overwrite::Reservation { slot, blocks },
+        (b"drawn", &[slot, blocks]) => Overwrite::Drawn { slot, blocks },
+        (b"pending", &[kind, slot, done, due]) => {
+            Overwrite::Pending(pending_of(kind, slot, done, due)?)
+        }
+        _ => return None,
+    };
+    Some(part)
 }
 
-// A word with two numbers.
-fn two(name: &[u8], first: u32, second: u32) -> Further {
-    if same(name, b"disk") {
-        return Further::Disk {
-            index: first,
-            word: second,
-        };
-    }
-    if same(name, b"sam") {
-        return Further::Memory(Overwrite::Sam {
-            index: first,
-            word: second,
-        });
-    }
-    if same(name, b"com") {
-        return Further::Memory(Overwrite::Com {
-            index: first,
-            word: second,
-        });
-    }
-    slot_and(name, first, second)
+// A word and its numbers.
+fn further_of(name: &[u8], numbers: &[u32]) -> Option<Further> {
+    let line = match (name, numbers) {
+        (b"disk", &[index, word]) => Further::Disk { index, word },
+        (b"length", &[words]) => Further::Length { words },
+        (b"list", &[places]) => Further::List { places },
+        (b"cost", &[slot, count]) => Further::Cost { slot, count },
+        (b"extent", &[slot, count, near]) => Further::Extent { slot, count, near },
+        (b"reserve", &[slot, blocks]) => Further::Reserve { slot, blocks },
+        _ => Further::Memory(overwrite_of(name, numbers)?),
+    };
+    Some(line)
 }
 
-// A word with three numbers.
-fn three(name: &[u8], slot: u32, second: u32, third: u32) -> Further {
-    if same(name, b"tam") {
-        return Further::Memory(Overwrite::Tam {
-            slot,
-            index: second,
-            word: third,
-        });
+// A line, without its byte 10, taken apart, if it is in form.
+pub fn parse(line: &[u8]) -> Option<Further> {
+    let mut fields = line.split(|byte| *byte == b' ');
+    let name = fields.next()?;
+    // No heap: the numbers stand in an array, and a line has four at most.
+    let mut numbers = [0u32; 4];
+    let mut count = 0;
+    for field in fields {
+        *numbers.get_mut(count)? = number(field)?;
+        count += 1;
     }
-    if same(name, b"extent") {
-        return Further::Extent {
-            slot,
-            count: second,
-            near: third,
-        };
-    }
-    Further::Malformed
-}
-
-// A word with four numbers.
-fn four(name: &[u8], kind: u32, slot: u32, done: u32, due: u32) -> Further {
-    if same(name, b"pending") {
-        return Further::Memory(Overwrite::Pending {
-            kind,
-            slot,
-            done,
-            due,
-        });
-    }
-    Further::Malformed
-}
-
-// A line, without its byte 10, taken apart.
-pub fn parse(line: &[u8]) -> Further {
-    let end = line
-        .iter()
-        .position(|byte| *byte == b' ')
-        .unwrap_or(line.len());
-    let name = &line[..end];
-    match numbers_from(line, end) {
-        Numbers::Zero => zero(name),
-        Numbers::One(a) => one(name, a),
-        Numbers::Two(a, b) => two(name, a, b),
-        Numbers::Three(a, b, c) => three(name, a, b, c),
-        Numbers::Four(a, b, c, d) => four(name, a, b, c, d),
-        Numbers::Malformed => Further::Malformed,
-    }
+    further_of(name, &numbers[..count])
 }

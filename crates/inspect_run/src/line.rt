@@ -1,97 +1,62 @@
 // One line of input to its answer line.
-ghost use Rattle.printing.specs.Waits.{Waits};
-ghost use Rattle.inspect_state.specs.Sized.{Sized};
-
-use check::same;
 use inspect_call::call;
-use inspect_counts::put_answered;
+use inspect_counts::put_counts;
 use inspect_further::alter;
 use inspect_show::put_fixture;
-use inspect_state::fixture::{Fixture, Step};
-use model_types::line::Parsed;
-use printing::place;
+use inspect_state::fixture::Fixture;
+use model_types::answer::number;
+use model_types::error::Error;
+use printing::Output;
 use status::status;
-
-// What a line leaves: the fixture, and the end of what waits to be written.
-#[derive(Clone, Copy)]
-pub(crate) struct Printed {
-    pub fixture: Fixture,
-    pub at: usize,
-}
+use std::fmt;
 
 // A bench line is a call, and any other a further line.
-fn step(line: &[u8], fixture: Fixture) -> Step
-    requires { Sized fixture }
-    ensures { Sized result.fixture }
-{
-    match bench_line::parse(line) {
-        Parsed::Call(asked) => call(asked, fixture),
-        Parsed::Malformed => alter(further_line::parse(line), fixture),
+fn step(line: &[u8], fixture: &mut Fixture) -> Result<u32, Error> {
+    if let Some(asked) = bench_line::parse(line) {
+        return call(asked, fixture);
+    }
+    match further_line::parse(line) {
+        Some(further) => alter(further, fixture),
+        None => Err(Error::LineMalformed),
     }
 }
 
 // Puts an answer line.
-fn put_answer(out: &mut [u8], at: usize, number: u32, answer: u32, value: u32) -> usize
-    requires { Waits out.old at }
-    ensures { Waits out.new result }
-{
-    let next = place(out, at);
-    bench_answer::print_answer(out, next, number, answer, value)
+fn put_answer(out: &mut Output, call: u32, answer: Result<u32, Error>) {
+    let mut line = [0u8; 64];
+    let end = bench_answer::print_answer(&mut line, 0, call, number(answer), answer.unwrap_or(0));
+    out.put(&line[..end]);
 }
 
 // Answers a `status` line: as the bench line of status, and all counts behind it.
-fn answer_status(number: u32, fixture: Fixture, out: &mut [u8], at: usize) -> Printed
-    requires sized { Sized fixture }
-    requires waits { Waits out.old at }
-    ensures sized_2 { Sized result.fixture }
-    ensures waits_2 { Waits out.new result.at }
-{
-    let measured = status(fixture.memory);
-    let answer = measured.answer;
-    let end = put_answer(out, at, number, answer.number(), answer.value());
-    Printed {
-        fixture: fixture.with_memory(measured.memory),
-        at: put_answered(out, end, answer),
+fn answer_status(number: u32, fixture: &Fixture, out: &mut Output) -> fmt::Result {
+    let answer = status(&fixture.memory);
+    put_answer(out, number, answer.map(|counts| counts.allocated));
+    match answer {
+        Ok(counts) => put_counts(out, counts),
+        Err(_) => Ok(()),
     }
 }
 
-// Answers any other line, and shows the fixture if it asks for it.
-fn answer_other(line: &[u8], number: u32, fixture: Fixture, out: &mut [u8], at: usize) -> Printed
-    requires sized { Sized fixture }
-    requires waits { Waits out.old at }
-    ensures sized_2 { Sized result.fixture }
-    ensures waits_2 { Waits out.new result.at }
-{
-    let step = step(line, fixture);
-    let next = step.fixture;
-    let end = put_answer(out, at, number, step.answer, step.value);
-    if same(line, b"show") {
-        return Printed {
-            fixture: next,
-            at: put_fixture(out, end, next),
-        };
-    }
-    Printed {
-        fixture: next,
-        at: end,
-    }
+// Answers a `show` line: as done, and the whole fixture behind it.
+fn answer_show(number: u32, fixture: &Fixture, out: &mut Output) -> fmt::Result {
+    put_answer(out, number, Ok(0));
+    put_fixture(out, fixture)
 }
 
 // Answers a line.
 pub(crate) fn answer(
     line: &[u8],
     number: u32,
-    fixture: Fixture,
-    out: &mut [u8],
-    at: usize,
-) -> Printed
-    requires sized { Sized fixture }
-    requires waits { Waits out.old at }
-    ensures sized_2 { Sized result.fixture }
-    ensures waits_2 { Waits out.new result.at }
-{
-    if same(line, b"status") {
-        return answer_status(number, fixture, out, at);
+    fixture: &mut Fixture,
+    out: &mut Output,
+) -> fmt::Result {
+    match line {
+        b"status" => answer_status(number, fixture, out),
+        b"show" => answer_show(number, fixture, out),
+        _ => {
+            put_answer(out, number, step(line, fixture));
+            Ok(())
+        }
     }
-    answer_other(line, number, fixture, out, at)
 }

@@ -1,60 +1,31 @@
 // What `show` prints of the slots.
-ghost use Rattle.printing.specs.Waits.{Waits};
+ghost use Rattle.std.specs.Prelude.{◌<◌};
+ghost use Rattle.bitmap.specs.Sizes.{slot_count};
 
 use crate::put_words;
-use bitmap::Bitmap;
-use model_types::memory::{Memory, Reserve, Slot, SlotState};
-use printing::put_field;
+use model_types::memory::{Memory, Reserve, Slot};
+use printing::Output;
+use std::fmt;
+use std::fmt::Write;
 
-// The number of a slot's state.
-fn state_code(state: SlotState) -> u32 {
-    match state {
-        SlotState::Idle => 0,
-        SlotState::Open => 1,
-        SlotState::Precommitted => 2,
-    }
-}
-
-// A slot's number and its state.
-fn put_state(out: &mut [u8], at: usize, s: usize, state: SlotState) -> usize
-    requires { Waits out.old at }
-    ensures { Waits out.new result }
+// A slot on a line: its number and its state, what is reserved for it and drawn of that, and its bitmap.
+fn put_slot(out: &mut Output, s: usize, slot: &Slot, reserve: &Reserve) -> fmt::Result
+    requires { s < slot_count }
 {
-    let next = put_field(out, at, b"slot ", s as u64);
-    put_field(out, next, b" state=", state_code(state) as u64)
-}
-
-// What is reserved for a slot, and what of it was drawn.
-fn put_reserve(out: &mut [u8], at: usize, reserve: Reserve) -> usize
-    requires { Waits out.old at }
-    ensures { Waits out.new result }
-{
-    let next = put_field(out, at, b" reservation=", reserve.reservation as u64);
-    put_field(out, next, b" drawn=", reserve.drawn as u64)
-}
-
-// A slot on a line.
-fn put_slot(out: &mut [u8], at: usize, s: usize, slot: Slot, reserve: Reserve) -> usize
-    requires { Waits out.old at }
-    ensures { Waits out.new result }
-{
-    let state = slot.state;
-    let tam = slot.tam;
-    let name = put_state(out, at, s, state);
-    let numbers = put_reserve(out, name, reserve);
-    put_words(out, numbers, &tam.words)
+    let state = slot.state as u32;
+    let reservation = reserve.reservation;
+    let drawn = reserve.drawn;
+    write!(
+        out,
+        "slot {s} state={state} reservation={reservation} drawn={drawn}"
+    )?;
+    put_words(out, &slot.tam.words)
 }
 
 // Each slot.
-pub(crate) fn put_slots(out: &mut [u8], at: usize, memory: Memory) -> usize
-    requires { Waits out.old at }
-    ensures { Waits out.new result }
-{
-    let mut end = at;
-    let mut s = 0;
-    while s < Bitmap::SLOTS {
-        end = put_slot(out, end, s, memory.slots[s], memory.reserves[s]);
-        s += 1;
+pub(crate) fn put_slots(out: &mut Output, memory: &Memory) -> fmt::Result {
+    for (s, (slot, reserve)) in memory.slots.iter().zip(&memory.reserves).enumerate() {
+        put_slot(out, s, slot, reserve)?;
     }
-    end
+    Ok(())
 }

@@ -1,57 +1,91 @@
-// What further lines do to the disk and to the list. Out of range they alter nothing.
-ghost use Rattle.inspect_state.specs.Sized.{Sized};
+// Words of which the first are lent to the calls.
+ghost use Rattle.std.specs.Prelude.{◌≡◌, ◌≤◌, ◌<◌, ◌++◌, ◌-◌, ◌↔◌, ℕ, List, take, length, min, replicate, IsSome, IfNone, OnSome, slice_set};
 
-use crate::fixture::{Fixture, MAX_LENGTH, MAX_PLACES, Step};
+use std::marker::Model;
 
-// Word I of the disk becomes V.
-pub fn disk_word(mut fixture: Fixture, index: u32, word: u32) -> Step
-    requires { Sized fixture }
-    ensures { Sized result.fixture }
-{
-    let i = index as usize;
-    if i < fixture.length {
-        let mut disk = fixture.disk;
-        disk[i] = word;
-        fixture.disk = disk;
-        return fixture.done();
-    }
-    fixture.malformed()
+// N words, and how many of them are lent.
+#[derive(Drop)]
+pub struct Lent<const N: usize> {
+    words: [u32; N],
+    len: usize,
 }
 
-// Puts zeros from an index on.
-fn clear(words: &mut [u32], from: usize) {
-    let mut i = from;
-    while i < words.len() {
-        words[i] = 0;
-        i += 1;
-    }
+// For a contract, the words that are lent.
+impl<const N: usize> Model for Lent<N> {
+    ghost Value = { List ℕ };
+
+    ghost view = { λ lent. take lent.len lent.words };
+
+    ghost invariant = { λ lent. lent.len ≤ N };
 }
 
-// The disk becomes N words long; words added are 0.
-pub fn disk_length(mut fixture: Fixture, words: u32) -> Step
-    requires { Sized fixture }
-    ensures { Sized result.fixture }
-{
-    let length = words as usize;
-    if MAX_LENGTH < length {
-        return fixture.malformed();
+impl<const N: usize> Lent<N> {
+    // Zeros, of which so many are lent, but no more than there are.
+    pub fn zeros(len: usize) -> Lent<N>
+        ensures { result ≡ replicate (min len N) 0 }
+    {
+        Lent {
+            words: [0; N],
+            len: len.min(N),
+        }
     }
-    let mut disk = fixture.disk;
-    clear(&mut disk, fixture.length);
-    fixture.disk = disk;
-    fixture.length = length;
-    fixture.done()
-}
 
-// The list lent from now on is its first N places.
-pub fn list_places(mut fixture: Fixture, number: u32) -> Step
-    requires { Sized fixture }
-    ensures { Sized result.fixture }
-{
-    let places = number as usize;
-    if MAX_PLACES < places {
-        return fixture.malformed();
+    // The words lent.
+    pub fn as_slice(&self) -> &[u32]
+        ensures { result.now ≡ self.now }
+    {
+        &self.words[..self.len]
     }
-    fixture.places = places;
-    fixture.done()
+
+    // The words lent, to be written.
+    pub fn as_mut_slice(&mut self) -> &mut [u32]
+        ensures { result.now ≡ self.old }
+    {
+        // In steps: the borrow checker lends no part of a field that is an array.
+        let len = self.len;
+        let array = &mut self.words;
+        let words = &mut array[..];
+        &mut words[..len]
+    }
+
+    // Word I becomes V, if it is lent.
+    pub fn set_word(&mut self, index: usize, word: u32) -> Option<()>
+        ensures in_range { IsSome result ↔ (index < length self.old) }
+        ensures set { OnSome result (self.new ≡ slice_set self.old index word) }
+        ensures kept { IfNone result (self.new ≡ self.old) }
+    {
+        if self.len <= index {
+            return None;
+        }
+        self.words[index] = word;
+        Some(())
+    }
+
+    // The first words are lent from now on, so many, if there are.
+    pub fn set_len(&mut self, len: usize) -> Option<()>
+        ensures in_range { IsSome result ↔ (len ≤ N) }
+        ensures length { OnSome result (length self.new ≡ len) }
+        ensures kept { IfNone result (self.new ≡ self.old) }
+    {
+        if N < len {
+            return None;
+        }
+        self.len = len;
+        Some(())
+    }
+
+    // The same, and words added are 0.
+    pub fn resize(&mut self, new_len: usize) -> Option<()>
+        ensures in_range { IsSome result ↔ (new_len ≤ N) }
+        ensures words { OnSome result (self.new ≡ take new_len self.old ++ replicate (new_len - length self.old) 0) }
+        ensures kept { IfNone result (self.new ≡ self.old) }
+    {
+        if N < new_len {
+            return None;
+        }
+        let words = &mut self.words[..];
+        words[self.len..].fill(0);
+        self.len = new_len;
+        Some(())
+    }
 }

@@ -1,4 +1,4 @@
-// What `inspect` keeps between two lines, and how much of its disk and of its list is lent (docs/TEST-LINES.md).
+// What `inspect` keeps between two lines: the memory, and the disk and the list, of which a part is lent (docs/TEST-LINES.md).
 #![tactic(auto)]
 
 pub mod fixture;

@@ -9,12 +9,6 @@ pub use Rattle.model_types.specs.declared.memory.Pending.TheVariants.{Nothing, C
 pub use Rattle.model_types.specs.declared.memory.Memory.{Memory}
 pub use Rattle.model_types.specs.declared.error.Error.{Error}
 pub use Rattle.model_types.specs.declared.error.Error.TheVariants.{MemoryInvalid, DiskLength, DiskBlocks, DiskBitmap, DiskLog, DiskMismatch, BlocksRange, WorkPending, NothingPending, SlotRange, SlotBusy, SlotIdle, SlotPrecommitted, SlotNotPrecommitted, CountRange, ListShort, TooFewAvailable, BlockRange, BlockFree, BlockFreeing, LineMalformed, NoExtent, OverReserved, ReservedForOthers}
-pub use Rattle.model_types.specs.declared.answer.Answer.{Answer}
-pub use Rattle.model_types.specs.declared.answer.GrantAnswer.{GrantAnswer}
-pub use Rattle.model_types.specs.declared.answer.StoresAnswer.{StoresAnswer}
+pub use Rattle.std.specs.Prelude.{Ok, Err, ⊤}
+pub use Rattle.model_types.specs.Answers.{Answer}
 pub use Rattle.model_types.specs.declared.answer.Counts.{Counts}
-pub use Rattle.model_types.specs.declared.answer.StatusAnswer.{StatusAnswer}
-pub use Rattle.model_types.specs.declared.answer.Changed.{Changed}
-pub use Rattle.model_types.specs.declared.answer.Granted.{Granted}
-pub use Rattle.model_types.specs.declared.answer.Stored.{Stored}
-pub use Rattle.model_types.specs.declared.answer.Measured.{Measured}

@@ -1,5 +1,5 @@
 -- The papers' number for each error.
-use Rattle.std.specs.Prelude.{ℕ}
+use Rattle.std.specs.Prelude.{ℕ, ◌≡◌}
 use Rattle.model_types.specs.declared.error.Error.{Error}
 use Rattle.model_types.specs.declared.error.Error.TheVariants.{MemoryInvalid, DiskLength, DiskBlocks, DiskBitmap, DiskLog, DiskMismatch, BlocksRange, WorkPending, NothingPending, SlotRange, SlotBusy, SlotIdle, SlotPrecommitted, SlotNotPrecommitted, CountRange, ListShort, TooFewAvailable, BlockRange, BlockFree, BlockFreeing, LineMalformed, NoExtent, OverReserved, ReservedForOthers}
 
@@ -29,3 +29,7 @@ code LineMalformed = 21
 code NoExtent = 22
 code OverReserved = 23
 code ReservedForOthers = 24
+
+-- as a number
+abbrev pub IsCode : Error → ℕ → Type 0
+IsCode error number = number ≡ code error

@@ -3,3 +3,4 @@ pub mod Errors
 pub mod Answers
 pub mod Memory
 pub mod Pending
+pub mod Shape

@@ -1,8 +1,7 @@
 // The causes of refusal of document 01's table, and of the jobs of document 02 that have landed, each with its number there.
-ghost use Rattle.std.specs.Prelude.{◌≡◌};
-ghost use Rattle.model_types.specs.Errors.{code};
+ghost use Rattle.model_types.specs.Errors.{IsCode};
 
-#[derive(Clone, Copy)]
+#[derive(Clone, Copy, Debug, PartialEq, Eq, Hash)]
 pub enum Error {
     MemoryInvalid,
     DiskLength,
@@ -30,12 +29,12 @@ pub enum Error {
     ReservedForOthers,
 }
 
-impl Error {
-    // The papers' number of the cause.
-    pub fn code(self) -> u32
-        ensures { result ≡ code self }
-    {
-        match self {
+// The papers' number of the cause.
+impl From<Error> for u32 {
+    ghost from_gives = { IsCode };
+
+    fn from(error: Error) -> u32 {
+        match error {
             Error::MemoryInvalid => 1,
             Error::DiskLength => 2,
             Error::DiskBlocks => 3,

@@ -9,7 +9,6 @@ ghost use Rattle.model_types.specs.Memory.{
   slot_of,
   no_reserve,
   reserve_of,
-  with_pending,
   is_active,
   is_precommitted,
 };
@@ -18,7 +17,7 @@ ghost use Rattle.model_types.specs.Pending.{stores_for, changed_for, is_nothing,
 use bitmap::Bitmap;
 
 // A slot (document 01: seat) is idle, open or precommitted.
-#[derive(Clone, Copy)]
+#[derive(Clone, Copy, Debug, PartialEq, Eq, Hash)]
 pub enum SlotState {
     Idle,
     Open,
@@ -34,14 +33,14 @@ pub struct Slot {
 
 // What is set aside for a slot, its reservation (document 02: its claim), and what of it the slot's transaction has drawn. It
 // stands beside the slot, since an idle slot may have a reservation.
-#[derive(Clone, Copy)]
+#[derive(Clone, Copy, Debug, PartialEq, Eq, Hash)]
 pub struct Reserve {
     pub reservation: u32,
     pub drawn: u32,
 }
 
 // Pending work (document 01: the store work in hand).
-#[derive(Clone, Copy)]
+#[derive(Clone, Copy, Debug, PartialEq, Eq, Hash)]
 pub enum Pending {
     Nothing,
     Commit { slot: u32, done: u32, due: u32 },
@@ -66,22 +65,14 @@ impl SlotState {
     pub fn is_active(self) -> bool
         ensures { result ≡ is_active self }
     {
-        match self {
-            SlotState::Idle => false,
-            SlotState::Open => true,
-            SlotState::Precommitted => true,
-        }
+        self != SlotState::Idle
     }
 
     // Whether a slot is precommitted.
     pub fn is_precommitted(self) -> bool
         ensures { result ≡ is_precommitted self }
     {
-        match self {
-            SlotState::Idle => false,
-            SlotState::Open => false,
-            SlotState::Precommitted => true,
-        }
+        self == SlotState::Precommitted
     }
 }
 
@@ -156,47 +147,25 @@ impl Memory {
     {
         Memory::quiet(0, Bitmap::EMPTY, Pending::Nothing)
     }
-
-    // The same memory with another pending work.
-    pub fn with_pending(self, pending: Pending) -> Memory
-        ensures { result ≡ with_pending self pending }
-    {
-        let sam = self.sam;
-        let com = self.com;
-        let slots = self.slots;
-        let reserves = self.reserves;
-        Memory::new(self.blocks, self.cursor, sam, com, slots, reserves, pending)
-    }
 }
 
 impl Pending {
     // Whether no work is pending.
+    #[tactic(auto, unfolding(crate::specs::Pending::is_nothing))]
     pub fn is_nothing(self) -> bool
         ensures { result ≡ is_nothing self }
     {
-        match self {
-            Pending::Nothing => true,
-            Pending::Commit {
-                slot: _,
-                done: _,
-                due: _,
-            } => false,
-            Pending::Recovery { done: _, due: _ } => false,
-        }
+        matches!(self, Pending::Nothing)
     }
 
     // The slot of a commit, and 0 where there is none.
+    #[tactic(auto, unfolding(crate::specs::Pending::owner_of))]
     pub fn owner(self) -> usize
         ensures { IsSlot (owner_of self) result }
     {
         match self {
-            Pending::Nothing => 0,
-            Pending::Commit {
-                slot,
-                done: _,
-                due: _,
-            } => Bitmap::slot_index(slot),
-            Pending::Recovery { done: _, due: _ } => 0,
+            Pending::Commit { slot, .. } => Bitmap::slot_index(slot),
+            Pending::Nothing | Pending::Recovery { .. } => 0,
         }
     }
 

@@ -1,13 +1,13 @@
 -- The next store, and the entry that it is of.
-use Rattle.std.specs.Prelude.{ℕ, ◌<◌, ◌≡◌, List, [], ◌∷◌, get_or, take, drop}
+use Rattle.std.specs.Prelude.{ℕ, ◌<◌, ◌≡◌, List, [], ◌∷◌, take, drop}
 use Rattle.bitmap.specs.Sizes.{bitmap_words}
 use Rattle.model.specs.Rules.Sizes.{disk_words}
 use Rattle.model.specs.Rules.Stores.{Store, ◌≔◌, changes}
 
--- word k is the changed word i
-pub record IsChange (old new : List ℕ) (i k : ℕ) : Type 0 where
-  pub within : k < bitmap_words
-  pub entry : take 1 (drop i (changes old new)) ≡ k ≔ get_or new k 0 ∷ []
+-- the changed word i is this one, with these new contents
+pub record IsChange (old new : List ℕ) (i number contents : ℕ) : Type 0 where
+  pub within : number < bitmap_words
+  pub entry : take 1 (drop i (changes old new)) ≡ number ≔ contents ∷ []
 
 -- a store of a list is the next after those done
 pub record IsNext (stores : List Store) (done place value : ℕ) : Type 0 where

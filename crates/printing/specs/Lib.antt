@@ -1,2 +1,2 @@
--- Where output stands.
+-- Output that waits.
 pub mod Waits

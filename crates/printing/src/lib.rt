@@ -1,76 +1,79 @@
-// Output that is put together in a large piece, and written when the piece is nearly full.
+// Output that is put together in a large piece, and written when the piece is full.
 #![tactic(auto)]
 
 pub mod runs;
 
-ghost use Rattle.std.specs.Prelude.{◌+◌, ◌≤◌};
-ghost use Rattle.printing.specs.Waits.{Waits, piece, room};
+ghost use Rattle.std.specs.Prelude.{◌≤◌, ◌≡◌, List, ℕ, take, [], IsOk};
+ghost use Rattle.printing.specs.Waits.{piece, put_behind};
+
+use std::fmt;
+use std::marker::Model;
 
 // Standard output's descriptor.
 const STDOUT: i32 = 1;
 // The bytes of a piece.
 const PIECE: usize = 65536;
-// The bytes that a piece has left at a place for more.
-const ROOM: usize = 64;
 
-// Writes what waits, the bytes up to `at`.
-pub fn flush(out: &[u8], at: usize)
-    requires { Waits out.now at }
-{
-    io::write_all(STDOUT, &out[..at]);
+// A piece of output: the bytes before `end` wait to be written.
+#[derive(Drop)]
+pub struct Output {
+    bytes: [u8; 65536],
+    end: usize,
 }
 
-// The place for what comes next: behind what waits to be written, or at the front once that is written.
-pub fn place(out: &[u8], at: usize) -> usize
-    requires { Waits out.now at }
-    ensures { result + room ≤ piece }
-{
-    if at <= PIECE - ROOM {
-        return at;
+// For a contract, the bytes that wait.
+impl Model for Output {
+    ghost Value = { List ℕ };
+
+    ghost view = { λ out. take out.end out.bytes };
+
+    ghost invariant = { λ out. out.end ≤ piece };
+}
+
+impl Output {
+    // Nothing waits yet.
+    pub fn new() -> Output
+        ensures { result ≡ [] }
+    {
+        Output {
+            bytes: [0; 65536],
+            end: 0,
+        }
     }
-    flush(out, at);
-    0
-}
 
-// Puts bytes behind what waits, and returns the end of what waits then.
-pub fn put(out: &mut [u8], at: usize, bytes: &[u8]) -> usize
-    requires { Waits out.old at }
-    ensures { Waits out.new result }
-{
-    let mut end = at;
-    let mut i = 0;
-    while i < bytes.len() {
-        let next = place(out, end);
-        out[next] = bytes[i];
-        end = next + 1;
-        i += 1;
+    // Writes what waits.
+    pub fn flush(&mut self)
+        ensures { self.new ≡ [] }
+    {
+        io::write_all(STDOUT, &self.bytes[..self.end]);
+        self.end = 0;
     }
-    end
+
+    // Puts bytes behind what waits, which is written first if there is no room left. More than a piece is written at once.
+    pub fn put(&mut self, bytes: &[u8])
+        ensures { self.new ≡ put_behind self.old bytes.now }
+    {
+        if PIECE - self.end < bytes.len() {
+            self.flush();
+        }
+        if bytes.len() <= PIECE - self.end {
+            let end = self.end + bytes.len();
+            self.bytes[self.end..end].copy_from_slice(bytes);
+            self.end = end;
+        } else {
+            io::write_all(STDOUT, bytes);
+        }
+    }
 }
 
-// Puts a number's decimal digits.
-pub fn put_number(out: &mut [u8], at: usize, number: u64) -> usize
-    requires { Waits out.old at }
-    ensures { Waits out.new result }
-{
-    let mut digits = [0u8; 20];
-    let count = io::decimal(number, &mut digits);
-    put(out, at, &digits[..count])
-}
+impl fmt::Write for Output {
+    ghost write_str_gives = { λ out text next. next ≡ put_behind out text };
 
-// Puts a name and a number behind it.
-pub fn put_field(out: &mut [u8], at: usize, name: &[u8], number: u64) -> usize
-    requires { Waits out.old at }
-    ensures { Waits out.new result }
-{
-    let next = put(out, at, name);
-    put_number(out, next, number)
-}
-
-// Ends a line.
-pub fn end_line(out: &mut [u8], at: usize) -> usize
-    requires { Waits out.old at }
-    ensures { Waits out.new result }
-{
-    put(out, at, b"\n")
+    fn write_str(&mut self, text: &str) -> fmt::Result
+        ensures waits { self.new ≡ put_behind self.old text.now }
+        ensures never_fails { IsOk result }
+    {
+        self.put(text.as_bytes());
+        Ok(())
+    }
 }

@@ -9,7 +9,7 @@ use Rattle.bitmap.specs.Extents.{adjoining, is_start, starts, distance, nearer, 
 use Rattle.bitmap.specs.Round.{wrapped, after_last}
 use Rattle.model_types.specs.declared.memory.Memory.{Memory}
 use Rattle.model_types.specs.declared.memory.Pending.TheVariants.{Nothing}
-use Rattle.model_types.specs.Answers.{granted, grant_number, grant_value}
+use Rattle.model_types.specs.Answers.{answer, answer_number, answer_value}
 use Rattle.model_types.specs.Memory.{quiet_memory, bitmap}
 use Rattle.model_types.specs.Pending.{is_nothing}
 use Rattle.model.specs.Rules.First.{first_or, first, unless_refused}
@@ -33,10 +33,10 @@ open1 = start_memory (quiet_memory 70 (bitmap (3222273024 ∷ 536870911 ∷ repl
 
 -- what an extent of so many blocks near a block begins with, and its number
 granted1 : ℕ → ℕ → ℕ
-granted1 count near = grant_value (allocate_extent_answer open1 1 count near list)
+granted1 count near = answer_value (allocate_extent_answer open1 1 count near list)
 
 number1 : ℕ → ℕ → ℕ
-number1 count near = grant_number (allocate_extent_answer open1 1 count near list)
+number1 count near = answer_number (allocate_extent_answer open1 1 count near list)
 
 -- 10 blocks near 9, 10 (equal distance) and 12 (of which 0 to 9 end nearer); one near 14, 15 and 64; nine near 69, the last block
 -- of m; four near 62, across a word's end; then what two extents of five near 27 begin with, one after the other. What isn't
@@ -45,12 +45,12 @@ pub extents : List (List ℕ)
 extents =
     (granted1 10 9 ∷ granted1 10 10 ∷ granted1 10 12 ∷ [])
     ∷ (granted1 1 14 ∷ granted1 1 15 ∷ granted1 1 64 ∷ granted1 9 69 ∷ granted1 4 62 ∷ [])
-    ∷ (granted1 5 27 ∷ grant_value (allocate_extent_answer (allocate_extent_memory open1 1 5 27 list) 1 5 27 list) ∷ [])
+    ∷ (granted1 5 27 ∷ answer_value (allocate_extent_answer (allocate_extent_memory open1 1 5 27 list) 1 5 27 list) ∷ [])
     ∷ (number1 10 69 ∷ number1 11 0 ∷ number1 11 70 ∷ number1 0 70 ∷ number1 65 0 ∷ [])
-    ∷ (grant_number (allocate_extent_answer open1 1 3 70 (9 ∷ 9 ∷ []))
-    ∷ grant_number (allocate_extent_answer open1 8 0 70 [])
-    ∷ grant_number (allocate_extent_answer open1 0 0 70 [])
-    ∷ grant_number (allocate_extent_answer (precommit_memory open1 1) 1 0 70 [])
+    ∷ (answer_number (allocate_extent_answer open1 1 3 70 (9 ∷ 9 ∷ []))
+    ∷ answer_number (allocate_extent_answer open1 8 0 70 [])
+    ∷ answer_number (allocate_extent_answer open1 0 0 70 [])
+    ∷ answer_number (allocate_extent_answer (precommit_memory open1 1) 1 0 70 [])
     ∷ [])
     ∷ allocate_extent_list open1 1 4 62 (9 ∷ 9 ∷ 9 ∷ 9 ∷ 8 ∷ 7 ∷ [])
     ∷ []
@@ -66,7 +66,7 @@ found =
     ∷ []
 
 computed : same_rows extents found ≡ true
-unfolding same_rows extents found list open1 granted1 number1 xor is_set bit word_of words_of bitmap_of no_bits_from scan from is_available member all_below adjoining is_start starts distance nearer nearest_of nearest granted is_nothing first_or first unless_refused memory_invalid nothing_pending work_pending slot_out_of_range slot_active slot_inactive slot_precommitted count_out_of_range list_short block_out_of_range extent_starts no_extent start_error started start_memory precommit_error precommitting precommit_memory wrapped after_last taking allocate_extent_error nearest_extent allocate_extent_answer allocate_extent_memory allocate_extent_list touched same_words all_slots slot_valid touches touches_agree took taken_blocks reservations_fit drawn_fit is_quiet pending_valid valid blocks_in_range count_in_range slot_in_range available_blocks available total_reserved others_reserved drawing reserved_for_others
+unfolding same_rows extents found list open1 granted1 number1 xor is_set bit word_of words_of bitmap_of no_bits_from scan from is_available member all_below adjoining is_start starts distance nearer nearest_of nearest answer is_nothing first_or first unless_refused memory_invalid nothing_pending work_pending slot_out_of_range slot_active slot_inactive slot_precommitted count_out_of_range list_short block_out_of_range extent_starts no_extent start_error started start_memory precommit_error precommitting precommit_memory wrapped after_last taking allocate_extent_error nearest_extent allocate_extent_answer allocate_extent_memory allocate_extent_list touched same_words all_slots slot_valid touches touches_agree took taken_blocks reservations_fit drawn_fit is_quiet pending_valid valid blocks_in_range count_in_range slot_in_range available_blocks available total_reserved others_reserved drawing reserved_for_others
 computed = refl
 
 pub extents_found : extents ≡ found

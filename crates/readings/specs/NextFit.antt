@@ -10,7 +10,7 @@ use Rattle.bitmap.specs.Round.{round_from, wrapped, after_last}
 use Rattle.bitmap.specs.Majority.{majority}
 use Rattle.model_types.specs.declared.memory.Memory.{Memory}
 use Rattle.model_types.specs.declared.memory.Pending.TheVariants.{Nothing}
-use Rattle.model_types.specs.Answers.{granted, grant_number, grant_value}
+use Rattle.model_types.specs.Answers.{answer, answer_number, answer_value}
 use Rattle.model_types.specs.Memory.{quiet_memory, with_cursor, bitmap}
 use Rattle.model_types.specs.Pending.{is_nothing}
 use Rattle.model.specs.Rules.First.{first_or, first, unless_refused}
@@ -40,8 +40,8 @@ from1 cursor = with_cursor open1 cursor
 -- the number, the value and the cursor after an allocate of so many blocks, and the blocks
 asked : Memory → ℕ → List ℕ
 asked memory count =
-    grant_number (allocate_answer memory 1 count list)
-    ∷ grant_value (allocate_answer memory 1 count list)
+    answer_number (allocate_answer memory 1 count list)
+    ∷ answer_value (allocate_answer memory 1 count list)
     ∷ (allocate_memory memory 1 count list).cursor
     ∷ take count (allocate_list memory 1 count list)
 
@@ -87,7 +87,7 @@ found =
     ∷ []
 
 computed : same_rows turns found ≡ true
-unfolding same_rows turns found list open1 from1 asked after3 behind xor is_set bit word_of words_of bitmap_of no_bits_from scan from is_available available_blocks member all_below adjoining is_start starts distance nearer nearest_of nearest round_from wrapped after_last majority granted is_nothing first_or first unless_refused memory_invalid nothing_pending work_pending slot_out_of_range slot_active slot_inactive slot_precommitted count_out_of_range list_short available too_few_available block_out_of_range extent_starts no_extent rolled_back_com rolled_back start_error started start_memory allocate_error met first_met taking allocate_answer allocate_memory allocate_list allocate_extent_error nearest_extent allocate_extent_answer allocate_extent_memory allocate_extent_list drop_error drop_memory touched same_words all_slots slot_valid touches touches_agree took taken_blocks reservations_fit drawn_fit is_quiet pending_valid valid blocks_in_range count_in_range slot_in_range total_reserved others_reserved drawing put_back reserved_for_others
+unfolding same_rows turns found list open1 from1 asked after3 behind xor is_set bit word_of words_of bitmap_of no_bits_from scan from is_available available_blocks member all_below adjoining is_start starts distance nearer nearest_of nearest round_from wrapped after_last majority answer is_nothing first_or first unless_refused memory_invalid nothing_pending work_pending slot_out_of_range slot_active slot_inactive slot_precommitted count_out_of_range list_short available too_few_available block_out_of_range extent_starts no_extent rolled_back_com rolled_back start_error started start_memory allocate_error met first_met taking allocate_answer allocate_memory allocate_list allocate_extent_error nearest_extent allocate_extent_answer allocate_extent_memory allocate_extent_list drop_error drop_memory touched same_words all_slots slot_valid touches touches_agree took taken_blocks reservations_fit drawn_fit is_quiet pending_valid valid blocks_in_range count_in_range slot_in_range total_reserved others_reserved drawing put_back reserved_for_others
 computed = refl
 
 pub turns_found : turns ≡ found

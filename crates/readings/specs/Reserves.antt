@@ -10,7 +10,7 @@ use Rattle.bitmap.specs.Round.{round_from, wrapped, after_last}
 use Rattle.bitmap.specs.Majority.{majority}
 use Rattle.model_types.specs.declared.memory.Memory.{Memory}
 use Rattle.model_types.specs.declared.memory.Pending.TheVariants.{Nothing}
-use Rattle.model_types.specs.Answers.{done, granted, due, done_number, grant_number, stores_number}
+use Rattle.model_types.specs.Answers.{answer, answer_number}
 use Rattle.model_types.specs.Memory.{quiet_memory, empty_bitmap, reserve_at, reserve_of, with_reserve}
 use Rattle.model_types.specs.Pending.{is_nothing}
 use Rattle.model.specs.Rules.First.{first_or, first, unless_refused}
@@ -54,16 +54,16 @@ own memory = (reserve_at memory 1).reservation ∷ (reserve_at memory 1).drawn �
 
 -- the numbers of a reserve, of an allocate of so many blocks, of an extent and of a commit cost
 sets : Memory → ℕ → ℕ → ℕ
-sets memory s reservation = done_number (reserve_answer memory s reservation)
+sets memory s reservation = answer_number (reserve_answer memory s reservation)
 
 asks : Memory → ℕ → ℕ → ℕ
-asks memory s count = grant_number (allocate_answer memory s count list)
+asks memory s count = answer_number (allocate_answer memory s count list)
 
 adjoin : Memory → ℕ → ℕ → ℕ
-adjoin memory s count = grant_number (allocate_extent_answer memory s count 0 list)
+adjoin memory s count = answer_number (allocate_extent_answer memory s count 0 list)
 
 costs : Memory → ℕ → ℕ → ℕ
-costs memory s count = stores_number (commit_cost_answer memory s count)
+costs memory s count = answer_number (commit_cost_answer memory s count)
 
 -- of four blocks four can be reserved, and not five (23); beside three one, and not two; in the place of three, four. No slot 8 (10), and
 -- no open slot (11), before 23. Slot 2 gets one block, and not two (24), but of five 17 comes first; as an extent (22 first), and as a
@@ -111,7 +111,7 @@ found =
     ∷ []
 
 computed : same_rows reserves found ≡ true
-unfolding same_rows reserves found list empty4 reserved open12 taken own sets asks adjoin costs xor is_set bit word_of words_of bitmap_of no_bits_from scan from is_available available_blocks member all_below adjoining is_start starts distance nearer nearest_of nearest round_from wrapped after_last majority done granted due is_nothing first_or first unless_refused available total_reserved others_reserved drawing put_back used_up reserving memory_invalid nothing_pending work_pending slot_out_of_range slot_active slot_inactive slot_precommitted slot_not_precommitted count_out_of_range count_too_large list_short too_few_available block_out_of_range extent_starts no_extent over_reserved reserved_for_others committed_sam refreshed committed rolled_back_com rolled_back start_error started start_memory allocate_error met first_met taking allocate_answer allocate_memory allocate_extent_error nearest_extent allocate_extent_answer allocate_extent_memory precommit_error precommitting precommit_memory commit_cost_error commit_cost_answer drop_error drop_memory revoke_error revoke_memory reserve_error reserve_answer reserve_memory touched same_words all_slots slot_valid touches touches_agree took taken_blocks reservations_fit drawn_fit is_quiet pending_valid valid blocks_in_range count_in_range slot_in_range
+unfolding same_rows reserves found list empty4 reserved open12 taken own sets asks adjoin costs xor is_set bit word_of words_of bitmap_of no_bits_from scan from is_available available_blocks member all_below adjoining is_start starts distance nearer nearest_of nearest round_from wrapped after_last majority answer is_nothing first_or first unless_refused available total_reserved others_reserved drawing put_back used_up reserving memory_invalid nothing_pending work_pending slot_out_of_range slot_active slot_inactive slot_precommitted slot_not_precommitted count_out_of_range count_too_large list_short too_few_available block_out_of_range extent_starts no_extent over_reserved reserved_for_others committed_sam refreshed committed rolled_back_com rolled_back start_error started start_memory allocate_error met first_met taking allocate_answer allocate_memory allocate_extent_error nearest_extent allocate_extent_answer allocate_extent_memory precommit_error precommitting precommit_memory commit_cost_error commit_cost_answer drop_error drop_memory revoke_error revoke_memory reserve_error reserve_answer reserve_memory touched same_words all_slots slot_valid touches touches_agree took taken_blocks reservations_fit drawn_fit is_quiet pending_valid valid blocks_in_range count_in_range slot_in_range
 computed = refl
 
 pub reserves_found : reserves ≡ found

@@ -12,7 +12,7 @@ use Rattle.bitmap.specs.Bits.{is_set, bit, word_of, words_of, bitmap_of, no_bits
 use Rattle.bitmap.specs.Blocks.{scan, from, allocated_blocks, is_available, available_blocks, is_allocating, allocating_blocks, is_freeing, freeing_blocks, is_held, held_blocks, member, all_below}
 use Rattle.bitmap.specs.Round.{round_from, wrapped, after_last}
 use Rattle.bitmap.specs.Majority.{majority}
-use Rattle.model_types.specs.Answers.{done, granted, due, counted, done_number, grant_number, stores_number, stores_value}
+use Rattle.model_types.specs.Answers.{answer, answer_number, answer_value}
 use Rattle.model.specs.Rules.Calls.Allocate.{allocate_error, met, first_met, taking, allocate_answer, allocate_memory, allocate_list}
 use Rattle.model.specs.Rules.Touched.{touched, touched_blocks, took, taken_blocks}
 use Rattle.model.specs.Rules.Calls.CommitCost.{commit_cost_error, cost_for, commit_cost, commit_cost_answer}
@@ -79,10 +79,10 @@ readings =
     ∷ (word0 committed2.sam ∷ [])
     ∷ (word0 (slot_at committed2 1).tam ∷ [])
     ∷ (word0 (open_memory crash2).sam ∷ [])
-    ∷ (word0 (open_memory crash3).sam ∷ stores_value (open_answer crash3) ∷ [])
-    ∷ (grant_number (allocate_answer taken2 1 1 list) ∷ [])
-    ∷ (done_number (deallocate_answer taken2 1 1) ∷ [])
-    ∷ (stores_number (commit_answer precommitted1 1) ∷ stores_value (commit_answer precommitted1 1) ∷ [])
+    ∷ (word0 (open_memory crash3).sam ∷ answer_value (open_answer crash3) ∷ [])
+    ∷ (answer_number (allocate_answer taken2 1 1 list) ∷ [])
+    ∷ (answer_number (deallocate_answer taken2 1 1) ∷ [])
+    ∷ (answer_number (commit_answer precommitted1 1) ∷ answer_value (commit_answer precommitted1 1) ∷ [])
     ∷ (words_for 32 ∷ words_for 33 ∷ [])
     ∷ []
 
@@ -112,7 +112,7 @@ nursery =
     let asked = deallocate_memory (start_memory taken1 2) 2 3 in
     figures (counts (quiet_memory 16 (bitmap (127 ∷ replicate (bitmap_words - 1) 0)) Nothing))
     ∷ figures (counts asked)
-    ∷ (grant_number (allocate_answer asked 2 6 list) ∷ grant_number (allocate_answer asked 2 3 list) ∷ grant_number (allocate_answer asked 2 2 list) ∷ [])
+    ∷ (answer_number (allocate_answer asked 2 6 list) ∷ answer_number (allocate_answer asked 2 3 list) ∷ answer_number (allocate_answer asked 2 2 list) ∷ [])
     ∷ []
 
 pub told : List (List ℕ)
@@ -132,20 +132,20 @@ costs =
     let taken1 = allocate_memory open1 1 2 list in
     let freed1 = deallocate_memory (deallocate_memory open1 1 0) 1 33 in
     let small1 = start_memory (quiet_memory 4 sam0 Nothing) 1 in
-    (stores_value (commit_cost_answer open1 1 0)
-    ∷ stores_value (commit_cost_answer open1 1 1)
-    ∷ stores_value (commit_cost_answer open1 1 2)
-    ∷ stores_value (commit_cost_answer open1 1 3)
-    ∷ stores_value (commit_cost_answer open1 1 64)
+    (answer_value (commit_cost_answer open1 1 0)
+    ∷ answer_value (commit_cost_answer open1 1 1)
+    ∷ answer_value (commit_cost_answer open1 1 2)
+    ∷ answer_value (commit_cost_answer open1 1 3)
+    ∷ answer_value (commit_cost_answer open1 1 64)
     ∷ [])
-    ∷ (stores_number (commit_cost_answer open1 1 65)
-    ∷ stores_number (commit_cost_answer open1 8 0)
-    ∷ stores_number (commit_cost_answer open1 0 0)
-    ∷ stores_number (commit_cost_answer (precommit_memory open1 1) 1 0)
-    ∷ stores_number (commit_cost_answer small1 1 4)
+    ∷ (answer_number (commit_cost_answer open1 1 65)
+    ∷ answer_number (commit_cost_answer open1 8 0)
+    ∷ answer_number (commit_cost_answer open1 0 0)
+    ∷ answer_number (commit_cost_answer (precommit_memory open1 1) 1 0)
+    ∷ answer_number (commit_cost_answer small1 1 4)
     ∷ [])
-    ∷ (stores_value (commit_cost_answer taken1 1 0) ∷ stores_value (commit_answer (precommit_memory taken1 1) 1) ∷ [])
-    ∷ (stores_value (commit_cost_answer freed1 1 0) ∷ stores_value (commit_answer (precommit_memory freed1 1) 1) ∷ [])
+    ∷ (answer_value (commit_cost_answer taken1 1 0) ∷ answer_value (commit_answer (precommit_memory taken1 1) 1) ∷ [])
+    ∷ (answer_value (commit_cost_answer freed1 1 0) ∷ answer_value (commit_answer (precommit_memory freed1 1) 1) ∷ [])
     ∷ []
 
 pub priced : List (List ℕ)
@@ -157,7 +157,7 @@ priced =
     ∷ []
 
 computed : (same_rows readings expected && (same_rows nursery told && same_rows costs priced)) ≡ true
-unfolding same_rows expected told priced list sam0 disk0 word0 flat figures readings nursery costs xor is_set bit word_of words_of bitmap_of no_bits_from scan from allocated_blocks is_available available_blocks is_allocating allocating_blocks is_freeing freeing_blocks is_held held_blocks member all_below majority done granted due counted commit_cost_error touched_blocks cost_for commit_cost commit_cost_answer allocate_error round_from wrapped after_last met first_met taking allocate_answer allocate_memory allocate_list commit_error committing commit_answer commit_memory deallocate_error freeing deallocate_answer deallocate_memory open_error recovery_due recovery_pending opened open_answer open_memory precommit_error precommitting precommit_answer precommit_memory start_error started start_answer start_memory status_error allocated active_slots counts status_answer store_error still_due advanced next_stored store_answer store_memory store_disk memory_invalid disk_length_wrong disk_blocks_wrong disk_bitmap_wrong disk_log_wrong disk_mismatched is_nothing nothing_pending work_pending slot_out_of_range slot_active slot_inactive slot_precommitted slot_not_precommitted count_out_of_range count_too_large list_short available too_few_available block_out_of_range block_free block_freeing committed_sam entries_of changed_of commit_due refreshed committed length_in entries_in log_entries entries_valid word_one_valid log_valid durable stores_of next_disk due_stores entries_agree recovery_matches image_matches stores_match parts_match disk_matches first_or first unless_refused touched stores_done stores_due one_more_done new_sam finished writes changes_from log_stores checkpoint_with journal_with checkpoint_stores commit_stores blocks_in_range count_in_range slot_in_range same_words all_slots slot_valid touches touches_agree took taken_blocks reservations_fit drawn_fit is_quiet pending_valid valid total_reserved others_reserved drawing used_up reserved_for_others
+unfolding same_rows expected told priced list sam0 disk0 word0 flat figures readings nursery costs xor is_set bit word_of words_of bitmap_of no_bits_from scan from allocated_blocks is_available available_blocks is_allocating allocating_blocks is_freeing freeing_blocks is_held held_blocks member all_below majority answer commit_cost_error touched_blocks cost_for commit_cost commit_cost_answer allocate_error round_from wrapped after_last met first_met taking allocate_answer allocate_memory allocate_list commit_error committing commit_answer commit_memory deallocate_error freeing deallocate_answer deallocate_memory open_error recovery_due recovery_pending opened open_answer open_memory precommit_error precommitting precommit_answer precommit_memory start_error started start_answer start_memory status_error allocated active_slots counts status_answer store_error still_due advanced next_stored store_answer store_memory store_disk memory_invalid disk_length_wrong disk_blocks_wrong disk_bitmap_wrong disk_log_wrong disk_mismatched is_nothing nothing_pending work_pending slot_out_of_range slot_active slot_inactive slot_precommitted slot_not_precommitted count_out_of_range count_too_large list_short available too_few_available block_out_of_range block_free block_freeing committed_sam entries_of changed_of commit_due refreshed committed length_in entries_in log_entries entries_valid word_one_valid log_valid durable stores_of next_disk due_stores entries_agree recovery_matches image_matches stores_match parts_match disk_matches first_or first unless_refused touched stores_done stores_due one_more_done new_sam finished writes changes_from log_stores checkpoint_with journal_with checkpoint_stores commit_stores blocks_in_range count_in_range slot_in_range same_words all_slots slot_valid touches touches_agree took taken_blocks reservations_fit drawn_fit is_quiet pending_valid valid total_reserved others_reserved drawing used_up reserved_for_others
 computed = refl
 
 both : (same_rows nursery told && same_rows costs priced) ≡ true

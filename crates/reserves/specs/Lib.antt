@@ -1,3 +1,2 @@
 -- What the contracts of this crate cite beside model's definitions.
 pub mod Few
-pub mod Sums

@@ -4,46 +4,17 @@
 ghost use Rattle.std.specs.Prelude.{◌≡◌};
 ghost use Rattle.model.specs.Rules.Calls.Revoke.{revoke_answer, revoke_memory};
 
-use bitmap::Bitmap;
-use model_types::answer::Stored;
+use model_types::answer::Answer;
 use model_types::memory::Memory;
-use reserves::change::put_back;
-use rollback::roll_back;
-use validity::{Numbers, valid};
+use rollback::undo;
 use verdicts::ready::precommitted;
 
-// Rolls back a precommitted slot, and puts back what it has drawn. Refused, the memory stays.
-pub fn revoke(mut memory: Memory, slot: u32) -> Stored
-    ensures answers { result.answer ≡ revoke_answer memory slot }
-    ensures leaves { result.memory ≡ revoke_memory memory slot }
+// Rolls back a precommitted slot, and puts back what it has drawn. It has no stores. Refused, the memory stays.
+pub fn revoke(memory: &mut Memory, slot: u32) -> Answer<u32>
+    ensures answers { result ≡ revoke_answer memory.old slot }
+    ensures leaves { memory.new ≡ revoke_memory memory.old slot }
 {
-    let blocks = memory.blocks;
-    let first = memory.cursor;
-    let sam = memory.sam;
-    let mut com = memory.com;
-    let mut slots = memory.slots;
-    let mut reserves = memory.reserves;
-    let numbers = Numbers {
-        blocks,
-        cursor: first,
-        reserves,
-    };
-    let pending = memory.pending;
-    let owner = slots[pending.owner()];
-    let checked = valid(numbers, &sam.words, &com.words, slots, pending, owner);
-    let at = Bitmap::slot_index(slot);
-    let own = slots[at];
-    let state = own.state;
-    let verdict = precommitted(checked.sound, pending, slot, state);
-    let answer = verdict.stores(0);
-    if verdict.is_accepted() {
-        let idle = roll_back(&mut com.words, &sam.words, &own.tam.words);
-        slots[at] = idle;
-        let back = put_back(reserves, at);
-        reserves = back;
-    }
-    memory.com = com;
-    memory.slots = slots;
-    memory.reserves = reserves;
-    Stored { answer, memory }
+    let ready = precommitted(memory, slot)?;
+    undo(memory, ready.at);
+    Ok(0)
 }

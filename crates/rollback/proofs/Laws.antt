@@ -1,2 +1,2 @@
--- What a rollback makes of a memory.
+-- What the piece of work makes of a memory.
 pub mod Rollback

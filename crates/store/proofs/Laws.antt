@@ -1,5 +1,4 @@
--- Pending work, and the store by parts.
-pub mod Progress
-pub mod Step
-pub mod PendingWork
-pub mod Store
+-- A valid memory's pending work and its next store, and the causes in turn.
+pub mod Work
+pub mod Next
+pub mod Causes

@@ -1,3 +1,2 @@
--- What a store tests and makes, by parts of a memory.
+-- What is asked of pending work.
 pub mod Progress
-pub mod Step

@@ -1,28 +1,25 @@
-// How far pending work has come, and the work after one more store.
-ghost use Rattle.std.specs.Prelude.{◌≡◌};
-ghost use Rattle.model.specs.Rules.Pending.{stores_done, stores_due, one_more_done};
-ghost use Rattle.model.specs.Rules.Calls.Store.{still_due};
-ghost use Rattle.store.specs.Progress.{StoreLeft, ends_with, pending_after, ends_commit};
+// A valid memory after its next store: one more is done, or the work ends.
+ghost use Rattle.std.specs.Prelude.{◌≡◌, true, false};
+ghost use Rattle.model_types.specs.Pending.{is_nothing};
+ghost use Rattle.model.specs.Rules.Pending.{one_more_done, finished};
+ghost use Rattle.model.specs.Rules.Valid.{valid};
+ghost use Rattle.model.specs.Rules.Calls.Store.{still_due, advanced};
+ghost use Rattle.store.specs.Progress.{StoreLeft};
+ghost use Rattle.model_types.specs.Shape.{HasShape};
 
-use model_types::memory::Pending;
+use ending::refresh;
+use model_types::memory::{Memory, Pending};
+use reserves::change::use_up;
 
-// The stores done, and all of them.
-#[derive(Clone, Copy)]
-struct Progress {
-    done: u32,
-    due: u32,
-}
-
-// Of work of any kind. What is left of it is told by these two numbers alone.
-#[tactic(auto, unfolding(model::specs::Rules::Pending::stores_done, model::specs::Rules::Pending::stores_due))]
-fn progress_of(pending: Pending) -> Progress
-    ensures done { result.done ≡ stores_done pending }
-    ensures due { result.due ≡ stores_due pending }
+// The stores still due after the next one.
+#[tactic(auto, unfolding(model::specs::Rules::Calls::Store::still_due, model::specs::Rules::Pending::stores_done, model::specs::Rules::Pending::stores_due))]
+fn still_due(pending: Pending) -> u32
+    requires { StoreLeft pending }
+    ensures { result ≡ still_due pending }
 {
     match pending {
-        Pending::Nothing => Progress { done: 0, due: 0 },
-        Pending::Commit { slot: _, done, due } => Progress { done, due },
-        Pending::Recovery { done, due } => Progress { done, due },
+        Pending::Nothing => 0,
+        Pending::Commit { done, due, .. } | Pending::Recovery { done, due } => due - (done + 1),
     }
 }
 
@@ -46,50 +43,39 @@ fn one_more_done(pending: Pending) -> Pending
     }
 }
 
-// Whether the next store is the last.
-fn is_last(pending: Pending) -> bool
-    requires { StoreLeft pending }
-    ensures { result ≡ ends_with pending }
-{
-    let progress = progress_of(pending);
-    progress.done + 1 == progress.due
-}
+// That the memory is valid is a clause here and in step.rt: a type for it would have to be made again at each write.
 
-// The stores still due after the next one.
-#[tactic(auto, unfolding(model::specs::Rules::Calls::Store::still_due))]
-pub fn still_due(pending: Pending) -> u32
-    requires { StoreLeft pending }
-    ensures { result ≡ still_due pending }
+// The last store ends the work. With a commit's its slot's TAM becomes SAM, and what the slot has drawn is used up.
+#[tactic(auto, using(crate::proofs::Laws::Work::commit_below))]
+fn finish(memory: &mut Memory)
+    requires shape { HasShape memory.old }
+    requires sound { valid memory.old ≡ true }
+    ensures { memory.new ≡ finished memory.old memory.old.pending }
 {
-    let progress = progress_of(pending);
-    progress.due - (progress.done + 1)
-}
-
-// The work after the next store: one more is done, or it ends.
-#[tactic(auto, unfolding(crate::specs::Progress::pending_after))]
-pub fn pending_after(pending: Pending) -> Pending
-    requires { StoreLeft pending }
-    ensures { result ≡ pending_after pending }
-{
-    if is_last(pending) {
-        return Pending::Nothing;
+    if let Pending::Commit { slot, .. } = memory.pending {
+        let at = slot as usize;
+        let new = memory.slots[at].tam;
+        refresh(&mut memory.slots, at, &memory.sam.words, &new.words);
+        memory.sam = new;
+        use_up(&mut memory.reserves[at]);
     }
-    one_more_done(pending)
+    memory.pending = Pending::Nothing;
 }
 
-// Whether the next store is a commit's last.
-#[tactic(auto, unfolding(crate::specs::Progress::ends_commit))]
-pub fn ends_commit(pending: Pending) -> bool
-    requires { StoreLeft pending }
-    ensures { result ≡ ends_commit pending }
+// Makes the memory what it is after the next store. Gives the stores still due.
+#[tactic(auto, using(crate::proofs::Laws::Work::left, crate::proofs::Laws::Next::last_store, crate::proofs::Laws::Next::other_store))]
+pub fn advance(memory: &mut Memory) -> u32
+    requires shape { HasShape memory.old }
+    requires sound { valid memory.old ≡ true }
+    requires pending { is_nothing memory.old.pending ≡ false }
+    ensures gives { result ≡ still_due memory.old.pending }
+    ensures leaves { memory.new ≡ advanced memory.old memory.old.pending }
 {
-    match pending {
-        Pending::Nothing => false,
-        Pending::Commit {
-            slot: _,
-            done: _,
-            due: _,
-        } => is_last(pending),
-        Pending::Recovery { done: _, due: _ } => false,
+    let due = still_due(memory.pending);
+    if due == 0 {
+        finish(memory);
+    } else {
+        memory.pending = one_more_done(memory.pending);
     }
+    due
 }

@@ -1,77 +1,49 @@
-// One store, by the pending work: whether it is refused, and made. The new SAM of a pending commit is its slot's TAM.
-ghost use Rattle.std.specs.Prelude.{◌≡◌, true, length};
-ghost use Rattle.bitmap.specs.Bits.{IsBitmap};
-ghost use Rattle.model.specs.Rules.Sizes.{disk_words};
-ghost use Rattle.model.specs.Rules.First.{first};
-ghost use Rattle.model.specs.Rules.Disk.{parts_match, next_disk};
-ghost use Rattle.verdicts.specs.Verdicts.{verdict};
-ghost use Rattle.model.specs.Rules.CauseLists.{store_causes};
-ghost use Rattle.store.specs.Step.{Fits, CanStore};
+// One store of a valid memory's pending work, on a disk of the right length: whether the disk fits it, and the word written. The new
+// SAM of a pending commit is its slot's TAM.
+ghost use Rattle.std.specs.Prelude.{◌≡◌, true};
+ghost use Rattle.model.specs.Rules.Valid.{valid};
+ghost use Rattle.model.specs.Rules.Disk.{disk_matches};
+ghost use Rattle.model.specs.Rules.Calls.Store.{next_stored};
+ghost use Rattle.model_types.specs.Shape.{HasShape};
 
 use disk_log::layout::DISK_WORDS;
 use disk_match::matching::{commit_matches, settled_matches};
 use disk_match::recovery::recovery_matches;
-use model_types::error::Error;
-use model_types::memory::Pending;
+use model_types::memory::{Memory, Pending};
 use next_store::stores::{store_commit, store_recovery};
-use verdicts::verdict::Verdict;
 
 // Whether the disk is as the memory and its stores done leave it.
-fn matches<'a>(
-    blocks: u32,
-    sam: &'a [u32; 128],
-    new: &'a [u32; 128],
-    pending: Pending,
-    disk: &[u32],
-) -> bool
-    requires disk_len { length disk.now ≡ disk_words }
-    requires bitmap { IsBitmap sam.now }
-    requires bitmap_2 { IsBitmap new.now }
-    requires fits { Fits blocks sam.now new.now pending }
-    ensures { result ≡ parts_match blocks sam.now new.now disk.now pending }
+#[tactic(auto, using(crate::proofs::Laws::Work::commit_below, crate::proofs::Laws::Work::commit_left, crate::proofs::Laws::Work::due_is, crate::proofs::Laws::Work::recovery_left, crate::proofs::Laws::Next::commit_matched, crate::proofs::Laws::Work::few_blocks), unfolding(model::specs::Rules::Disk::disk_matches, model::specs::Rules::Disk::parts_match, model::specs::Rules::Disk::stores_match, model::specs::Rules::Disk::stores_of))]
+pub fn matches(memory: &Memory, disk: &[u32; DISK_WORDS]) -> bool
+    requires shape { HasShape memory.now }
+    requires sound { valid memory.now ≡ true }
+    ensures { result ≡ disk_matches memory.now disk.now memory.now.pending }
 {
-    match pending {
-        Pending::Nothing => settled_matches(disk, blocks, sam),
-        Pending::Commit { slot: _, done, due } => commit_matches(disk, blocks, sam, new, done, due),
-        Pending::Recovery { done, due } => recovery_matches(disk, blocks, sam, done, due),
+    let sam = &memory.sam.words;
+    match memory.pending {
+        Pending::Nothing => settled_matches(disk, memory.blocks, sam),
+        Pending::Commit { slot, done, due } => {
+            let new = &memory.slots[slot as usize].tam.words;
+            commit_matches(disk, memory.blocks, sam, new, done, due)
+        }
+        Pending::Recovery { done, due } => recovery_matches(disk, memory.blocks, sam, done, due),
     }
-}
-
-// The causes 1, 2, 6 and 9, in order.
-pub fn judge<'a>(
-    sound: bool,
-    blocks: u32,
-    sam: &'a [u32; 128],
-    new: &'a [u32; 128],
-    pending: Pending,
-    disk: &[u32],
-) -> Verdict
-    requires bitmap { IsBitmap sam.now }
-    requires bitmap_2 { IsBitmap new.now }
-    requires fits { sound ≡ true → Fits blocks sam.now new.now pending }
-    ensures { result ≡ verdict (first (store_causes sound blocks sam.now new.now disk.now pending)) }
-{
-    if !sound {
-        return Verdict::Refused(Error::MemoryInvalid);
-    }
-    if disk.len() != DISK_WORDS {
-        return Verdict::Refused(Error::DiskLength);
-    }
-    let matched = Verdict::Accepted.unless(
-        !matches(blocks, sam, new, pending, disk),
-        Error::DiskMismatch,
-    );
-    matched.unless(pending.is_nothing(), Error::NothingPending)
 }
 
 // Makes the next store: one word of the disk, and no other.
-pub fn store_next<'a>(sam: &'a [u32; 128], new: &'a [u32; 128], pending: Pending, disk: &mut [u32])
-    requires { CanStore sam.now new.now disk.old pending }
-    ensures { disk.new ≡ next_disk sam.now new.now disk.old pending }
+#[tactic(auto, using(crate::proofs::Laws::Work::commit_below, crate::proofs::Laws::Work::commit_left, crate::proofs::Laws::Work::due_is, crate::proofs::Laws::Next::nothing_stored, crate::proofs::Laws::Next::commit_stored, crate::proofs::Laws::Next::recovery_stored))]
+pub fn store_next(memory: &Memory, disk: &mut [u32; DISK_WORDS])
+    requires shape { HasShape memory.now }
+    requires sound { valid memory.now ≡ true }
+    requires fits { disk_matches memory.now disk.old memory.now.pending ≡ true }
+    ensures { disk.new ≡ next_stored memory.now disk.old }
 {
-    match pending {
+    match memory.pending {
         Pending::Nothing => {}
-        Pending::Commit { slot: _, done, due } => store_commit(disk, sam, new, done, due),
-        Pending::Recovery { done, due: _ } => store_recovery(disk, done),
+        Pending::Commit { slot, done, due } => {
+            let new = &memory.slots[slot as usize].tam.words;
+            store_commit(disk, &memory.sam.words, new, done, due)
+        }
+        Pending::Recovery { done, .. } => store_recovery(disk, done),
     }
 }

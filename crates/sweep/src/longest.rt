@@ -2,7 +2,7 @@
 use allocate::allocate;
 use bitmap::Bitmap;
 use commit::commit;
-use model_types::answer::Stored;
+use model_types::error::Error;
 use model_types::memory::Memory;
 use precommit::precommit;
 use start::start;
@@ -16,37 +16,27 @@ const SLOT: u32 = 0;
 const TIMES: u32 = 64;
 
 // Takes all blocks in one slot.
-fn take_all(memory: Memory) -> Memory {
+fn take_all(memory: &mut Memory) -> Result<(), Error> {
     let mut list = [0u32; 64];
-    let mut state = memory;
-    let mut left = TIMES;
-    while 0 < left {
-        let granted = allocate(state, SLOT, Bitmap::COUNT, &mut list);
-        let next = granted.memory;
-        state = next;
-        left -= 1;
+    for _ in 0..TIMES {
+        allocate(memory, SLOT, Bitmap::COUNT, &mut list)?;
     }
-    state
+    Ok(())
 }
 
-// Formats a disk and begins the commit of all its blocks.
-pub(crate) fn longest_commit(disk: &mut [u32]) -> Stored {
-    format(disk, Bitmap::BLOCKS);
-    let opened = open(disk);
-    let started = start(opened.memory, SLOT);
-    let taken = take_all(started.memory);
-    let precommitted = precommit(taken, SLOT);
-    commit(precommitted.memory, SLOT)
+// Formats a disk, opens it and begins the commit of all its blocks: the stores due.
+pub(crate) fn longest_commit(memory: &mut Memory, disk: &mut [u32]) -> Result<u32, Error> {
+    format(disk, Bitmap::BLOCKS)?;
+    *memory = open(disk).memory;
+    start(memory, SLOT)?;
+    take_all(memory)?;
+    precommit(memory, SLOT)?;
+    commit(memory, SLOT)
 }
 
 // Makes so many stores.
-pub(crate) fn make_stores(memory: Memory, disk: &mut [u32], count: u32) {
-    let mut state = memory;
-    let mut left = count;
-    while 0 < left {
-        let stored = store(state, disk);
-        let next = stored.memory;
-        state = next;
-        left -= 1;
+pub(crate) fn make_stores(mut memory: Memory, disk: &mut [u32], count: u32) {
+    for _ in 0..count {
+        let _ = store(&mut memory, disk);
     }
 }

@@ -2,10 +2,10 @@
 // checksum of all answers.
 #![tactic(auto)]
 
-mod script;
 mod steps;
 
-use printing::{end_line, flush, put_number};
+use printing::Output;
+use std::fmt::Write;
 use steps::make_steps;
 
 // Standard input's descriptor.
@@ -15,8 +15,8 @@ fn main() {
     let mut script = [0u8; 65536];
     io::read_full(STDIN, &mut script);
     let sum = make_steps(&script);
-    let mut out = [0u8; 65536];
-    let number = put_number(&mut out, 0, sum);
-    let end = end_line(&mut out, number);
-    flush(&out, end);
+    let mut out = Output::new();
+    // Putting text never fails: what can't be written is lost.
+    let _ = writeln!(out, "{sum}");
+    out.flush();
 }

@@ -1,37 +1,51 @@
 // The steps of a script, made in turn.
-ghost use Rattle.std.specs.Prelude.{◌≡◌, ◌+◌, ◌*◌, ◌%◌, min, length};
+ghost use Rattle.std.specs.Prelude.{◌≡◌, ◌+◌, ◌*◌, ◌%◌, length};
 ghost use Rattle.timing.specs.Script.{script_bytes};
 
-use crate::script::{MOST_STEPS, four, pair, wide};
 use allocate::allocate;
 use allocate_extent::allocate_extent;
 use commit::commit;
 use commit_cost::commit_cost;
 use deallocate::deallocate;
 use drop::drop;
-use model_types::answer::StatusAnswer;
+use model_types::answer::{Answer, Counts, number};
 use model_types::memory::Memory;
 use precommit::precommit;
 use reserve::reserve;
 use revoke::revoke;
+use script::{Call, four, pair};
 use start::start;
 use status::status;
 use store::store;
 use volume::format::format;
 use volume::open::open;
 
+// The steps that a script holds behind its head. It is as long as the bytes that are read. Those that a shorter input leaves are 0,
+// and a step of them makes no call.
+const MOST_STEPS: usize = 10920;
+
 // A checksum with a number more.
 fn mix(sum: u64, number: u32) -> u64
     ensures { result ≡ 1000003 * (sum % 4294967296) + number }
 {
-    1000003 * (sum % 4294967296) + number as u64
+    1000003 * (sum % 4294967296) + u64::from(number)
 }
 
-// The smaller of two numbers.
-fn least(a: usize, b: usize) -> usize
-    ensures { result ≡ min a b }
-{
-    if a < b { a } else { b }
+// With status's counts but the last.
+fn mix_counts(sum: u64, answer: Answer<Counts>) -> u64 {
+    let Ok(counts) = answer else {
+        return sum;
+    };
+    let sum = mix(sum, counts.allocated);
+    let sum = mix(sum, counts.available);
+    let sum = mix(sum, counts.allocating);
+    let sum = mix(sum, counts.freeing);
+    mix(sum, counts.held)
+}
+
+// The number and the value of an answer. The bench program has the same three lines: neither stands on the other.
+fn printed(answer: Answer<u32>) -> (u32, u32) {
+    (number(answer), answer.unwrap_or(0))
 }
 
 // Makes as many steps as the script says; behind its last one it goes on with the first one behind its set-up. It is one
@@ -39,123 +53,47 @@ fn least(a: usize, b: usize) -> usize
 pub(crate) fn make_steps(script: &[u8]) -> u64
     requires { length script.now ≡ script_bytes }
 {
-    let setup = least(four(script, 0) as usize, MOST_STEPS - 1);
-    let steps = least(four(script, 4) as usize, MOST_STEPS);
+    let setup = (four(script, 0) as usize).min(MOST_STEPS - 1);
+    let steps = (four(script, 4) as usize).min(MOST_STEPS);
     let made = four(script, 8);
     let mut disk = [0u32; 386];
     let mut list = [0u32; 64];
     let mut memory = Memory::zero();
     let mut sum: u64 = 0;
     let mut step = 0;
+    // The step is no range: behind the last one the steps go on behind the set-up.
     for _ in 0..made {
         let at = 12 + 6 * step;
-        let op = script[at];
-        let slot = wide(script[at + 1]);
+        let slot = u32::from(script[at + 1]);
         let n = pair(script, at + 2);
         let near = pair(script, at + 4);
-        let mut code = 0;
-        let mut value = 0;
-        match op {
-            1 => {
-                let answer = format(&mut disk, n);
-                code = answer.number();
+        let (code, value) = match Call::try_from(script[at]) {
+            Ok(Call::Format) => (number(format(&mut disk, n)), 0),
+            Ok(Call::Open) => {
+                let opened = open(&disk);
+                memory = opened.memory;
+                printed(opened.answer)
             }
-            2 => {
-                let done = open(&disk);
-                memory = done.memory;
-                let answer = done.answer;
-                code = answer.number();
-                value = answer.value();
+            Ok(Call::Start) => (number(start(&mut memory, slot)), 0),
+            Ok(Call::Allocate) => printed(allocate(&mut memory, slot, n, &mut list)),
+            Ok(Call::AllocateExtent) => {
+                printed(allocate_extent(&mut memory, slot, n, near, &mut list))
             }
-            3 => {
-                let done = start(memory, slot);
-                memory = done.memory;
-                let answer = done.answer;
-                code = answer.number();
+            Ok(Call::Deallocate) => (number(deallocate(&mut memory, slot, n)), 0),
+            Ok(Call::Precommit) => printed(precommit(&mut memory, slot)),
+            Ok(Call::Commit) => printed(commit(&mut memory, slot)),
+            Ok(Call::Drop) => (number(drop(&mut memory, slot)), 0),
+            Ok(Call::Revoke) => printed(revoke(&mut memory, slot)),
+            Ok(Call::Store) => printed(store(&mut memory, &mut disk)),
+            Ok(Call::Status) => {
+                let answer = status(&memory);
+                sum = mix_counts(sum, answer);
+                (number(answer), answer.map_or(0, |counts| counts.active))
             }
-            4 => {
-                let done = allocate(memory, slot, n, &mut list);
-                memory = done.memory;
-                let answer = done.answer;
-                code = answer.number();
-                value = answer.value();
-            }
-            5 => {
-                let done = allocate_extent(memory, slot, n, near, &mut list);
-                memory = done.memory;
-                let answer = done.answer;
-                code = answer.number();
-                value = answer.value();
-            }
-            6 => {
-                let done = deallocate(memory, slot, n);
-                memory = done.memory;
-                let answer = done.answer;
-                code = answer.number();
-            }
-            7 => {
-                let done = precommit(memory, slot);
-                memory = done.memory;
-                let answer = done.answer;
-                code = answer.number();
-                value = answer.value();
-            }
-            8 => {
-                let done = commit(memory, slot);
-                memory = done.memory;
-                let answer = done.answer;
-                code = answer.number();
-                value = answer.value();
-            }
-            9 => {
-                let done = drop(memory, slot);
-                memory = done.memory;
-                let answer = done.answer;
-                code = answer.number();
-            }
-            10 => {
-                let done = revoke(memory, slot);
-                memory = done.memory;
-                let answer = done.answer;
-                code = answer.number();
-                value = answer.value();
-            }
-            11 => {
-                let done = store(memory, &mut disk);
-                memory = done.memory;
-                let answer = done.answer;
-                code = answer.number();
-                value = answer.value();
-            }
-            12 => {
-                let done = status(memory);
-                memory = done.memory;
-                let answer = done.answer;
-                code = answer.number();
-                if let StatusAnswer::Counted(counts) = answer {
-                    sum = mix(sum, counts.allocated);
-                    sum = mix(sum, counts.available);
-                    sum = mix(sum, counts.allocating);
-                    sum = mix(sum, counts.freeing);
-                    sum = mix(sum, counts.held);
-                    value = counts.active;
-                }
-            }
-            13 => {
-                let done = commit_cost(memory, slot, n);
-                memory = done.memory;
-                let answer = done.answer;
-                code = answer.number();
-                value = answer.value();
-            }
-            14 => {
-                let done = reserve(memory, slot, n);
-                memory = done.memory;
-                let answer = done.answer;
-                code = answer.number();
-            }
-            _ => {}
-        }
+            Ok(Call::CommitCost) => printed(commit_cost(&memory, slot, n)),
+            Ok(Call::Reserve) => (number(reserve(&mut memory, slot, n)), 0),
+            Err(_) => (0, 0),
+        };
         sum = mix(sum, code);
         sum = mix(sum, value);
         sum = mix(sum, list[((n + 63) % 64) as usize]);

@@ -1,4 +1,3 @@
 -- Laws of the words that this crate's loops write and test.
 pub mod Differ
-pub mod Words
 pub mod Taking

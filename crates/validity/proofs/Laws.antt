@@ -1,5 +1,4 @@
--- Laws of `valid`, and of what is left while it is tested. And of a callee's answer.
-pub mod Answers
+-- Laws of `valid`, and of what is left while it is tested.
 pub mod Slots
 pub mod LeftBits
 pub mod Passed

@@ -1,71 +1,63 @@
 // Whether pending work fits the memory that it stands in, once its bitmaps are known to be valid.
-ghost use Rattle.std.specs.Prelude.{◌≡◌, ◌≤◌};
-ghost use Rattle.bitmap.specs.Sizes.{max_blocks};
-ghost use Rattle.bitmap.specs.Bits.{IsBitmap};
-ghost use Rattle.model_types.specs.Memory.{bitmap, memory_of, no_reserves};
-ghost use Rattle.model.specs.Rules.Valid.{pending_valid};
-ghost use Rattle.validity.specs.Pending.{commit_valid};
+ghost use Rattle.std.specs.Prelude.{◌≡◌, true, not};
+ghost use Rattle.model_types.specs.Memory.{is_active};
+ghost use Rattle.model.specs.Rules.Valid.{all_slots, pending_valid, valid};
+ghost use Rattle.validity.specs.Checked.{bare};
+ghost use Rattle.model_types.specs.Shape.{HasShape};
 
 use bitmap::Bitmap;
 use bitops::compare::{changed, same};
-use model_types::memory::{Pending, Slot, SlotState};
+use model_types::memory::{Memory, Pending, Slot};
 
 // A commit's slot is precommitted, and there are three stores for each word at which its TAM differs from SAM, one at
 // least, and two more.
-pub fn commit_valid(
-    state: SlotState,
-    sam: &[u32; 128],
-    tam: &[u32; 128],
-    done: u32,
-    due: u32,
-) -> bool
-    requires bitmap { IsBitmap sam.now }
-    requires bitmap_2 { IsBitmap tam.now }
-    ensures { result ≡ commit_valid state sam.now tam.now done due }
+#[tactic(auto, using(crate::proofs::Laws::Pending::commit_by_tam, crate::proofs::Laws::Pending::commit_past, crate::proofs::Laws::Pending::changed_most))]
+fn commit_valid(memory: &Memory, slot: u32, done: u32, due: u32) -> bool
+    requires shape { HasShape memory.now }
+    requires maps { valid (bare memory.now) ≡ true }
+    ensures { result ≡ pending_valid memory.now (Pending.Commit slot done due) }
 {
-    if !state.is_precommitted() {
+    let Some(owner) = memory.slots.get(slot as usize) else {
+        return false;
+    };
+    if !owner.state.is_precommitted() {
         return false;
     }
-    let words = changed(sam, tam);
-    if words < 1 {
-        return false;
-    }
-    if due != Pending::stores_for(words) {
-        return false;
-    }
-    done < due
+    let words = changed(&memory.sam.words, &owner.tam.words);
+    0 < words && due == Pending::stores_for(words) && done < due
 }
 
-// During a recovery all slots are idle, COM equals SAM, and there are 2 to W + 1 stores. Neither the cursor nor what is reserved
-// plays a part.
-pub fn recovery_valid<'a>(
-    blocks: u32,
-    sam: &'a [u32; 128],
-    com: &'a [u32; 128],
-    slots: [Slot; 8],
-    done: u32,
-    due: u32,
-) -> bool
-    requires blocks_le_max_blocks { blocks ≤ max_blocks }
-    requires bitmap { IsBitmap sam.now }
-    requires bitmap_2 { IsBitmap «com».now }
-    ensures { result ≡ pending_valid (memory_of blocks 0 (bitmap sam.now) (bitmap «com».now) slots no_reserves (Pending.Recovery done due)) (Pending.Recovery done due) }
+// Whether all slots are idle.
+fn all_idle(slots: &[Slot; 8]) -> bool
+    ensures { result ≡ all_slots (λ slot. not (is_active slot.state)) slots.now }
 {
-    for s in 0..Bitmap::SLOTS {
-        let slot = slots[s];
-        let state = slot.state;
-        if state.is_active() {
-            return false;
-        }
+    slots.iter().all(|slot| !slot.state.is_active())
+}
+
+// During a recovery all slots are idle, COM equals SAM, and there are 2 to W + 1 stores.
+#[tactic(auto, using(crate::proofs::Laws::Slots::few_blocks), unfolding(model::specs::Rules::Valid::pending_valid, model::specs::Rules::Valid::is_quiet))]
+fn recovery_valid(memory: &Memory, done: u32, due: u32) -> bool
+    requires shape { HasShape memory.now }
+    requires maps { valid (bare memory.now) ≡ true }
+    ensures { result ≡ pending_valid memory.now (Pending.Recovery done due) }
+{
+    all_idle(&memory.slots)
+        && same(&memory.com.words, &memory.sam.words)
+        && 2 <= due
+        && due <= Bitmap::words_for(memory.blocks) + 1
+        && done < due
+}
+
+// Whether the memory's own pending work fits.
+#[tactic(auto, unfolding(model::specs::Rules::Valid::pending_valid))]
+pub fn pending_valid(memory: &Memory) -> bool
+    requires shape { HasShape memory.now }
+    requires maps { valid (bare memory.now) ≡ true }
+    ensures { result ≡ pending_valid memory.now memory.now.pending }
+{
+    match memory.pending {
+        Pending::Nothing => true,
+        Pending::Commit { slot, done, due } => commit_valid(memory, slot, done, due),
+        Pending::Recovery { done, due } => recovery_valid(memory, done, due),
     }
-    if !same(com, sam) {
-        return false;
-    }
-    if due < 2 {
-        return false;
-    }
-    if Bitmap::words_for(blocks) + 1 < due {
-        return false;
-    }
-    done < due
 }

@@ -1,3 +1,2 @@
--- Laws of verdicts.
-pub mod Verdicts
-pub mod Frame
+-- What a call that passes its slot's causes may use.
+pub mod Ready

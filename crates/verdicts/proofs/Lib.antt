@@ -1,2 +1,2 @@
--- Lemmas on verdicts.
+-- The laws of this crate.
 pub mod Laws

@@ -1,2 +1,2 @@
--- Verdicts.
-pub mod Verdicts
+-- What the contracts of this crate cite.
+pub mod Ready

@@ -1,6 +1,5 @@
-// Whether a call is refused: what a call answers with, and the causes that the eight transaction calls, commit cost and reserve test
-// first.
+// What the eight transaction calls, commit cost and reserve test first: whether the memory is valid, its pending work, the slot's
+// number and its state.
 #![tactic(auto)]
 
 pub mod ready;
-pub mod verdict;

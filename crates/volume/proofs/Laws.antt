@@ -1,4 +1,3 @@
 -- Each call: what its causes come to, one after the other, and its effect.
-pub mod Filled
 pub mod Format
 pub mod Open

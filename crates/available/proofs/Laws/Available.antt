@@ -37,18 +37,18 @@ is_set-neither s c i hs hc l =
 
 module _ (m : ℕ) (sam «com» : List ℕ) (k : ℕ) where
   -- of the last word, those below m
-  pub available-part : (left : ℕ) → left ≡ m - 32 * k → left < 32
+  pub available_part : (left : ℕ) → left ≡ m - 32 * k → left < 32
       → bit_and (2 ^ 32 - 1 - bit_or (get_or sam k 0) (get_or «com» k 0)) (1 * 2 ^ left % 2 ^ 32 - 1) ≡ available_word m sam «com» k
   unfolding available_word
-  available-part left e h =
+  available_part left e h =
       let n : min 32 (m - 32 * k) ≡ left = omega arith in
       rw (n, shift_one left h)
 
   -- of the words before, all
-  pub available-whole : (left : ℕ) → left ≡ m - 32 * k → 32 ≤ left
+  pub available_whole : (left : ℕ) → left ≡ m - 32 * k → 32 ≤ left
       → 2 ^ 32 - 1 - bit_or (get_or sam k 0) (get_or «com» k 0) ≡ available_word m sam «com» k
   unfolding available_word
-  available-whole left e h =
+  available_whole left e h =
       let n : min 32 (m - 32 * k) ≡ 32 = omega arith in
       rw n
       (sym

@@ -7,10 +7,10 @@ use mathlib.Core.Bool.{◌||◌}
 use mathlib.Core.List.{List, [], ◌∷◌, ◌++◌}
 use lib.ListN.{length, get_or, set, take, drop}
 use lib.Seq.{drop-cons, take-suc}
-use Rattle.bitmap.specs.Bits.{bit, bitmap_of, IsBitmap}
+use Rattle.bitmap.specs.Bits.{bit, bitmap_of}
 use Rattle.bitmap.specs.Blocks.{is_available, available_blocks, member}
 use Rattle.bitmap.specs.Round.{round_from, wrapped, after_last}
-use Rattle.bitmap.proofs.Laws.Bits.{bitmap_of-is, bitmap_of-bit}
+use Rattle.bitmap.proofs.Laws.Bits.{bitmap_of-bit}
 use Rattle.bitmap.proofs.Laws.Blocks.{get_or-member}
 use Rattle.bitmap.proofs.Laws.Round.{member-round, round-length, round_same, round-wrapped, without, after-met-lt, round-drop, wrapped-below, after-last-snoc, available-without}
 use Rattle.bitops.specs.Block.{put_bit}
@@ -55,10 +55,6 @@ module _ {m cursor count : ℕ} {sam com₀ tam₀ list₀ : List ℕ} (can : Ca
   enough-met = omega (arith, can.enough, round-length (is_available sam com₀) m cursor (omega (arith, can.inside)))
 
   module _ {n next : ℕ} {«com» tam list : List ℕ} (taken : Taken m cursor sam com₀ tam₀ list₀ n next «com» tam list) where
-    -- COM stays a bitmap
-    pub taken_is : IsBitmap «com»
-    taken_is = rw taken.takes.in_com (bitmap_of-is m (λ b. member b (take n all) || bit com₀ b))
-
     module _ (more : n < count) {found : ℕ} (is : found ≡ next_met m sam «com» next) where
       -- what is met from next on is what is left
       left : available_round m sam «com» next ≡ drop n all

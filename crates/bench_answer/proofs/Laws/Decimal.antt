@@ -66,3 +66,7 @@ pub put-digits : {l l₁ : List ℕ} {at last : ℕ} (n : ℕ) → 10 ≤ n → 
     → Put l at (decimal n) (set l₁ last (48 + n % 10)) (last + 1)
 put-digits {l} {l₁} {at} {last} n h fits inside room front =
     rw (decimal-digits n h fits) (put_then inside front (put_one l₁ last (48 + n % 10) room))
+
+pub ruleset decimal_laws = (digit-length, digits-length, put-digit, put-digits)
+
+pub ruleset room_laws = (decimal-length)

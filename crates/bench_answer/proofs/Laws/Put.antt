@@ -5,7 +5,7 @@ use mathlib.Core.List.{List, [], ◌∷◌, ◌++◌, append_assoc}
 use native.Mathlib.Numerals.{add-one}
 use native.Mathlib.Omega.{arith}
 use lib.ListN.{length, take, drop, set, length-append}
-use lib.Seq.{length-take-le, take_at, drop-append-add, drop-drop, set_split, append_snoc, paste, take-length}
+use lib.Seq.{length-take-le, take_at, drop-append-add, drop-drop, set_split, append_snoc}
 use Rattle.bench_answer.specs.Put.{Put}
 
 -- one byte
@@ -16,14 +16,6 @@ put_one l at b h = record {
       set_split l at b h
       ∙ sym (append_snoc (take at l) b (drop (suc at) l))
       ∙ ap (λ (n : ℕ). take at l ++ (b ∷ []) ++ drop n l) (sym (add-one at));
-}
-
--- a whole copy
-pub put-paste : (l : List ℕ) (at : ℕ) (bytes : List ℕ) (n : ℕ) (after : List ℕ) → n ≡ length bytes → after ≡ paste l at bytes n
-    → Put l at bytes after (at + n)
-put-paste l at bytes n after e copied = record {
-  next_is = ap (λ (k : ℕ). at + k) e;
-  after_is = copied ∙ ap (λ (front : List ℕ). take at l ++ front ++ drop (at + n) l) (ap (λ (k : ℕ). take k bytes) e ∙ take-length bytes);
 }
 
 -- bytes after bytes

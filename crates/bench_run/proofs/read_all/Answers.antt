@@ -1,19 +1,17 @@
 -- Each piece that is read leads on, and what it prints is written.
-use Rattle.std.proofs.Common.{length, sym, ◌∙◌, arith}
+use Rattle.std.proofs.Common.{sym, ◌∙◌, arith}
 use Rattle.bench_run.proofs.Laws.Whole.{reading-start, reading-more, reading-done}
 use Rattle.bench_run.proofs.read_all.Goals as goal
 
-pub loop-left-init : goal.loop-left-init
-loop-left-init c =
-    let a = c.args in
-    reading-start (length a.input.now) a.line.now a.disk.now (omega arith) c.requires.disk_value c.new-run.ensures c.none-read.ensures.counts c.none-written.ensures
+pub loop-pieces-init : goal.loop-pieces-init
+loop-pieces-init c = reading-start c.requires c.none-read.ensures.counts c.none-written.ensures
 
-pub loop-left-preserved-then-piece : goal.loop-left-preserved-then-piece
-loop-left-preserved-then-piece c =
-    reading-more c.loop-left.invariant c.loop-left-test.true _ _ c.run_read-piece.ensures.runs (omega arith) c.read_piece-read.result c.last-n.ensures
-    c.read_piece-read.ensures.counts c.write_piece-written.result c.write_piece-written.ensures (omega arith)
+pub returns-then-not-reads_on : goal.returns-then-not-reads_on
+returns-then-not-reads_on c =
+    reading-done c.loop-pieces.invariant c.piece-n.new.input c.piece-n.result c.piece-n.ensures.within c.run_piece-end.ensures
+    c.piece-n.ensures.last c.piece-n.ensures.counts c.piece.ensures (sym c.reads_on.ensures ∙ c.if-not-reads_on.true)
 
-pub loop-left-preserved : goal.loop-left-preserved
-loop-left-preserved c =
-    reading-done c.loop-left.invariant c.loop-left-test.true _ _ c.run_read-piece.ensures.runs (omega arith) c.read_piece-read.result c.last-n.ensures
-    c.read_piece-read.ensures.counts c.write_piece-written.result c.write_piece-written.ensures (sym c.run_read-piece.ensures.more ∙ c.if-piece.false)
+pub loop-pieces-preserved : goal.loop-pieces-preserved
+loop-pieces-preserved c =
+    reading-more c.loop-pieces.invariant c.piece-n.new.input c.piece-n.result c.piece-n.ensures.within c.run_piece-end.ensures
+    c.piece-n.ensures.last c.piece-n.ensures.counts c.piece.ensures (sym c.reads_on.ensures ∙ c.if-not-reads_on.false) (omega (arith, c.piece-n.ensures.within))

@@ -2,12 +2,15 @@
 use Prim.Native.Nat.{ℕ, ◌+◌, ◌-◌, ◌≤◌, ◌<◌}
 use mathlib.Core.Path.{◌≡◌, sym, ap, ap₂, ◌∙◌}
 use mathlib.Core.List.{List, ◌∷◌, ◌++◌}
-use mathlib.Core.Logic.{⊎_elim}
+use mathlib.Core.Bool.{not, true≢false}
 use native.Mathlib.Numerals.{add-one}
-use native.Mathlib.Nat.{eq-or-lt_of_le}
 use native.Mathlib.Omega.{arith}
-use lib.ListN.{length, take, drop, get_or, length-take, take-append-drop}
-use lib.Seq.{drop-cons, drop-drop, get_or-drop, get_or-take}
+use lib.ListN.{length, take, drop, get_or, length-take, length-drop, take-append-drop}
+use lib.Seq.{take_all, drop-cons, drop-drop, get_or-drop, get_or-take}
+use lib.Dec.{eqb}
+use Rattle.std.proofs.lemmas.Bool.{eqb-true}
+use Rattle.std.specs.List.{position_or_len}
+use Rattle.std.proofs.lemmas.List.Sums.{prefix_len-le-length, fails_before_first, passes_at_first}
 use Rattle.model.specs.Rules.Line.{newline}
 use Rattle.bench_step.specs.Cut.{NoEnd, EndAt}
 
@@ -29,9 +32,26 @@ module _ (bytes : List ℕ) (start next : ℕ) (end : EndAt bytes start next) wh
   pub end_rest : next < length bytes → drop next bytes ≡ newline ∷ drop (next + 1) bytes
   end_rest h = drop-cons bytes next 0 h ∙ ap₂ (λ (b n : ℕ). b ∷ drop n bytes) (end.ends h) (sym (add-one next))
 
--- one byte more that isn't byte 10
-module _ (bytes : List ℕ) (start at : ℕ) (passed : (i : ℕ) → start ≤ i → i < at → get_or bytes i 0 ≡ newline → ⊥) (here : get_or bytes at 0 ≡ newline → ⊥) where
-  pub none_more : (i : ℕ) → start ≤ i → i < at + 1 → get_or bytes i 0 ≡ newline → ⊥
-  none_more i low high e =
-      let most : i ≤ at = omega arith in
-      ⊎_elim (λ (same : i ≡ at). here (ap (λ (n : ℕ). get_or bytes n 0) (sym same) ∙ e)) (λ (less : i < at). passed i low less e) (eq-or-lt_of_le most)
+-- the first byte 10 from an index on
+module _ (bytes : List ℕ) (start len : ℕ) (inside : start ≤ length bytes)
+    (is : len ≡ position_or_len (λ byte. eqb byte newline) (take (length bytes - start) (drop start bytes))) where
+  rest_len : len ≡ position_or_len (λ byte. eqb byte newline) (drop start bytes)
+  rest_len = is ∙ ap (position_or_len (λ byte. eqb byte newline)) (take_all (length bytes - start) (drop start bytes) (omega (arith, length-drop start bytes)))
+
+  pub end-inside : start + len ≤ length bytes
+  end-inside = omega (arith, inside, rest_len, prefix_len-le-length (λ byte. not (eqb byte newline)) (drop start bytes), length-drop start bytes)
+
+  passed : (i : ℕ) → start ≤ i → i < start + len → get_or bytes i 0 ≡ newline → ⊥
+  passed i low high e =
+      let at : start + (i - start) ≡ i = omega (arith, low) in
+      let here : get_or (drop start bytes) (i - start) 0 ≡ newline = get_or-drop start bytes (i - start) 0 ∙ ap (λ (k : ℕ). get_or bytes k 0) at ∙ e in
+      true≢false (sym (ap (λ (byte : ℕ). eqb byte newline) here) ∙ fails_before_first (λ byte. eqb byte newline) (drop start bytes) (i - start) 0 (omega (arith, low, high, rest_len)))
+
+  ends-here : start + len < length bytes → get_or bytes (start + len) 0 ≡ newline
+  ends-here h =
+      ap (λ (k : ℕ). get_or bytes (start + k) 0) rest_len
+      ∙ sym (get_or-drop start bytes (position_or_len (λ byte. eqb byte newline) (drop start bytes)) 0)
+      ∙ eqb-true _ _ (passes_at_first (λ byte. eqb byte newline) (drop start bytes) 0 (omega (arith, h, rest_len, length-drop start bytes)))
+
+  pub end-at : EndAt bytes start (start + len)
+  end-at = record { onward = omega arith; within = end-inside; none = passed; ends = ends-here }

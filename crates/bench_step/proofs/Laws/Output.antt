@@ -9,7 +9,8 @@ use lib.ListN.{length, take, length-append}
 use lib.Seq.{take-nil, take_all, length-take-le}
 use lib.Dec.{eqb, leb}
 use borrow.Author.Tests.{leb-true, leb-false}
-use Rattle.model_types.specs.declared.line.Parsed.{Parsed}
+use Rattle.std.specs.Prelude.{Option, None, Some}
+use Rattle.model_types.specs.declared.line.Line.{Line}
 use Rattle.model.specs.Rules.Line.{newline, parse_line, answer_line}
 use Rattle.model.specs.Rules.Bench.{Bench, bench_of, bench_start, bench_step, bench_output, lines_of, lines_from, output_from, max_lines}
 use Rattle.bench_line.proofs.Laws.Line.{long-line}
@@ -23,10 +24,10 @@ unfolding output_of bench_output lines_of
 output-is input = refl
 
 -- the step takes no account of the last answer and value
-step-forgets : (p : Parsed) (b : Bench) → bench_step p b ≡ bench_step p (bench_of b.memory b.disk 0 0)
+step-forgets : (p : Option Line) (b : Bench) → bench_step p b ≡ bench_step p (bench_of b.memory b.disk 0 0)
 unfolding bench_step
-step-forgets Parsed.Malformed b = refl
-step-forgets (Parsed.Call line) b = refl
+step-forgets None b = refl
+step-forgets (Some line) b = refl
 
 module _ (number : ℕ) where
   output-forgets : (lines : List (List ℕ)) (b : Bench) → output_from number lines b ≡ output_from number lines (bench_of b.memory b.disk 0 0)
@@ -80,7 +81,7 @@ module _ (number : ℕ) (bench : Bench) (a b : List ℕ) (e : parse_line a ≡ p
   unfolding output_from
   same-parse zero = refl
   same-parse (suc left) =
-      ap (λ (p : Parsed). answer_line number (bench_step p bench).answer (bench_step p bench).value ++ output_from (suc number) (take left lines) (bench_step p bench)) e
+      ap (λ (p : Option Line). answer_line number (bench_step p bench).answer (bench_step p bench).value ++ output_from (suc number) (take left lines) (bench_step p bench)) e
 
 -- any two long lines print the same
 module _ (number : ℕ) (bench : Bench) where

@@ -113,7 +113,7 @@ module _ {input : List ℕ} {number₀ : ℕ} {memory₀ : Memory} {disk₀ out�
     rest-none h =
         rw (← take_all (next - rest) (drop rest input) (omega (arith, length-drop rest input, over))) (line-none input rest next (going.end.read h))
 
-    pub going-ends : Answered input number₀ memory₀ disk₀ out₀ at₀ (record { memory = memory; number = number; at = at; rest = rest }) disk out
+    pub going-ends : Answered input number₀ memory₀ disk₀ out₀ at₀ (record { number = number; at = at; rest = rest }) memory disk out
     going-ends = record {
       leads = agree-all going.agree (leads-bytes (take at out) number memory disk [] (drop rest input) rest-none);
       within = omega (arith, going.end.onward, going.end.within);

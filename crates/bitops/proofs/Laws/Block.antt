@@ -28,9 +28,9 @@ pub shift_one : (i : ℕ) → i < 32 → 1 * 2 ^ i % 2 ^ 32 ≡ 2 ^ i
 shift_one i h = shl_exact 1 i 32 (omega arith) (omega arith) ∙ one-mul (2 ^ i)
 
 -- a word's bit i is the lowest of the word shifted by i
-pub is_set-shift : (w i : ℕ) → eqb (bit_and (w / 2 ^ i) 1) 1 ≡ is_set w i
+pub has_bit : (w i : ℕ) → eqb (bit_and (w / 2 ^ i) 1) 1 ≡ is_set w i
 unfolding is_set
-is_set-shift w i = ap (λ (x : ℕ). eqb x 1) (and_mask (w / 2 ^ i) 1)
+has_bit w i = ap (λ (x : ℕ). eqb x 1) (and_mask (w / 2 ^ i) 1)
 
 -- ---- a word put in a block's place
 

@@ -1,15 +1,16 @@
--- Three bitmaps combined word by word: the words and bits of the result, how a loop makes it, and the bitmaps that a
+-- Three bitmaps combined word by word: the words and bits of the result, and the bitmaps that a
 -- commit, a rollback and another slot's commit make.
-use Prim.Native.Nat.{ℕ, zero, suc, ◌+◌, ◌-◌, ◌/◌, ◌%◌, ◌^◌, ◌≤◌, ◌<◌}
+use Prim.Native.Nat.{ℕ, zero, suc, ◌-◌, ◌/◌, ◌%◌, ◌^◌, ◌≤◌, ◌<◌}
 use native.Mathlib.Nat.{not-suc-le-zero}
 use native.Mathlib.Omega.{arith}
 use mathlib.Core.Path.{◌≡◌, refl, sym, ap, ap₂, ◌∙◌}
 use mathlib.Core.Logic.{⊎_elim}
 use mathlib.Core.Bool.{Bool, true, false, not, xor, cond, ◌&&◌, ◌||◌}
 use mathlib.Core.List.{List, [], ◌∷◌}
-use lib.ListN.{length, get_or, set, get_or-eq_default}
+use lib.ListN.{length, get_or, get_or-eq_default}
 use lib.Bits.{bit_and, bit_xor, and_lt, or_lt, xor_lt}
 use lib.Pow.{ones_sub-lt}
+use Rattle.std.proofs.lemmas.Grind.{same_number_lists}
 use Rattle.bitmap.specs.Sizes.{max_blocks, word_bits, bitmap_words}
 use Rattle.bitmap.specs.Bits.{is_set, bit, bitmap_of, no_bits_from, IsBitmap}
 use Rattle.bitmap.specs.Majority.{majority}
@@ -17,7 +18,6 @@ use Rattle.bitmap.proofs.Laws.Word.{is_set-and, is_set-or, is_set-xor, is_set-no
 use Rattle.bitmap.proofs.Laws.Bits.{no_bits-bit, below-or-from}
 use Rattle.bitmap.proofs.Laws.Majority.{majority_word-lt, is_set-rollback}
 use Rattle.bitops.specs.Combine.{rollback_word, refresh_word, zip3}
-use Rattle.bitops.proofs.Laws.Overwrite.{Overwritten, overwritten-at, overwritten-step, overwritten-all}
 use Rattle.bitops.proofs.Laws.Bitmap.{bitmap-of-bits}
 
 -- ---- the words
@@ -49,22 +49,13 @@ module _ (f : ℕ → ℕ → ℕ → ℕ) (u v w : List ℕ)
   word_at : (k : ℕ) → k < bitmap_words → get_or (zip3 f u v w) k 0 ≡ f (get_or u k 0) (get_or v k 0) (get_or w k 0)
   word_at k h = get_or-zip3 f u v w k (ev ∙ sym eu) (ew ∙ sym eu) (omega arith)
 
-  -- a loop that makes the words
-  module _ (old : List ℕ) {words : List ℕ} (k : ℕ) (eo : length old ≡ bitmap_words)
-      (so : Overwritten k (zip3 f u v w) old words) where
-    -- the word that is next has not been written
-    pub zip3-at : k < bitmap_words → get_or words k 0 ≡ get_or old k 0
-    zip3-at h = overwritten-at k (zip3 f u v w) old words (omega (arith, zip3-size)) (omega arith) so
-
-    -- the next word is made of those in its place
-    pub zip3-step : {word : ℕ} → k < bitmap_words → word ≡ f (get_or u k 0) (get_or v k 0) (get_or w k 0)
-        → Overwritten (k + 1) (zip3 f u v w) old (set words k word)
-    zip3-step h e =
-        rw (e ∙ sym (word_at k h)) (overwritten-step k (zip3 f u v w) old words (omega (arith, zip3-size)) (omega arith) so)
-
-    -- and past the last all are made
-    pub zip3-all : bitmap_words ≤ k → words ≡ zip3 f u v w
-    zip3-all h = overwritten-all k (zip3 f u v w) old words (omega (arith, zip3-size)) (omega arith) so
+  -- words that are each made of those in its place
+  pub zip3_each : (words : List ℕ) → length words ≡ bitmap_words
+      → ((k : ℕ) → k < bitmap_words → get_or words k 0 ≡ f (get_or u k 0) (get_or v k 0) (get_or w k 0))
+      → words ≡ zip3 f u v w
+  zip3_each words size each =
+      same_number_lists words (zip3 f u v w) (size ∙ sym zip3-size)
+      (λ k h. each k (omega arith) ∙ sym (word_at k (omega arith)))
 
 -- ---- the bits
 

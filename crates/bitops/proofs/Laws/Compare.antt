@@ -3,16 +3,18 @@ use Prim.Native.Nat.{ℕ, zero, suc, ◌+◌, ◌-◌, ◌*◌, ◌/◌, ◌%◌
 use native.Mathlib.Nat.{sub-zero, div-eq_of_lt, div-lt_iff_lt-mul, one-mul, pos_of_ne-zero}
 use native.Mathlib.Numerals.{add-one}
 use native.Mathlib.Omega.{arith}
-use mathlib.Core.Path.{◌≡◌, refl, sym, ap, ap₂, ◌∙◌}
+use mathlib.Core.Path.{◌≡◌, refl, sym, ap, ◌∙◌}
 use mathlib.Core.Bool.{Bool, true, false, cond, ◌&&◌, and_assoc, and-true}
 use mathlib.Core.List.{List, [], ◌∷◌}
-use lib.ListN.{length, get_or, drop, replicate, drop_of_length-le}
-use lib.Seq.{drop-cons}
+use lib.ListN.{length, get_or, take, drop, length-drop, drop_of_length-le}
+use lib.Seq.{drop-cons, take_all}
 use lib.Dec.{eqb, ltb}
+use lib.Pointwise.{pointwise}
 use lib.Bits.{bit_or, bit_xor, and_le_l, and_le_r, or_add_and, xor_add_and, xor_self}
 use lib.Pow.{pow_pos, pow_mono}
 use borrow.Author.Tests.{eqb-true, eqb-false, eq-eqb, ne_eqb, lt-ltb, le-ltb, ltb-true, ltb-false}
-use Rattle.bitmap.specs.Sizes.{word_bits}
+use Rattle.std.proofs.lemmas.List.{nil_from_length}
+use Rattle.bitmap.specs.Sizes.{word_bits, bitmap_words}
 use Rattle.bitmap.specs.Bits.{no_bits_from}
 use Rattle.model.specs.Rules.Valid.{same_words}
 use Rattle.model.specs.Rules.Stores.{Store, ◌≔◌, changes_from}
@@ -54,19 +56,13 @@ eqb-shift w i = go (ltb w (2 ^ i)) refl
 
 -- ---- the same words
 
--- the words from k on are the same if those at k are, and those after
-pub same_step : (a b : List ℕ) (k d : ℕ) → k < length a → k < length b
-    → (eqb d 0 && same_words (drop k a) (drop k b))
-    ≡ (eqb (bit_or d (bit_xor (get_or a k 0) (get_or b k 0))) 0 && same_words (drop (k + 1) a) (drop (k + 1) b))
+-- words that are equal each to each are the same
+pub same_words_pointwise : (a b : List ℕ) → pointwise eqb a b ≡ same_words a b
 unfolding same_words
-same_step a b k d ha hb =
-    rw (drop-cons a k 0 ha, drop-cons b k 0 hb, add-one k, eqb-or d (bit_xor (get_or a k 0) (get_or b k 0)), eqb-xor (get_or a k 0) (get_or b k 0))
-    (sym (and_assoc (eqb d 0) (eqb (get_or a k 0) (get_or b k 0)) (same_words (drop (suc k) a) (drop (suc k) b))))
-
--- past the last word nothing differs
-pub same_end : (a b : List ℕ) (k d : ℕ) → length a ≤ k → length b ≤ k → (eqb d 0 && same_words (drop k a) (drop k b)) ≡ eqb d 0
-unfolding same_words
-same_end a b k d ha hb = rw (drop_of_length-le a ha, drop_of_length-le b hb) (and-true (eqb d 0))
+same_words_pointwise [] [] = refl
+same_words_pointwise [] (y ∷ ys) = refl
+same_words_pointwise (x ∷ xs) [] = refl
+same_words_pointwise (x ∷ xs) (y ∷ ys) = ap (λ (t : Bool). eqb x y && t) (same_words_pointwise xs ys)
 
 -- ---- no bits
 
@@ -79,23 +75,17 @@ ltb-one w = go (eqb w 0) refl
     go false e = le-ltb w 1 (pos_of_ne-zero (eqb-false w 0 e))
 
 -- the words from k on are 0 if that at k is, and those after
-pub zero-step : (words : List ℕ) (k bits : ℕ) → k < length words
+pub zero_step : (words : List ℕ) (k bits : ℕ) → k < length words
     → (eqb bits 0 && no_bits_from 0 (drop k words)) ≡ (eqb (bit_or bits (get_or words k 0)) 0 && no_bits_from 0 (drop (k + 1) words))
 unfolding no_bits_from
-zero-step words k bits h =
+zero_step words k bits h =
     rw (drop-cons words k 0 h, add-one k, ltb-one (get_or words k 0), eqb-or bits (get_or words k 0))
     (sym (and_assoc (eqb bits 0) (eqb (get_or words k 0) 0) (no_bits_from 0 (drop (suc k) words))))
 
 -- past the last word there are none
-pub zero-end : (words : List ℕ) (k bits : ℕ) → length words ≤ k → (eqb bits 0 && no_bits_from 0 (drop k words)) ≡ eqb bits 0
+pub zero_end : (words : List ℕ) (k bits : ℕ) → length words ≤ k → (eqb bits 0 && no_bits_from 0 (drop k words)) ≡ eqb bits 0
 unfolding no_bits_from
-zero-end words k bits h = rw (drop_of_length-le words h) (and-true (eqb bits 0))
-
--- words with no bits are those of an empty bitmap
-pub zero_same : (words : List ℕ) → no_bits_from 0 words ≡ same_words words (replicate (length words) 0)
-unfolding no_bits_from same_words
-zero_same [] = refl
-zero_same (w ∷ ws) = ap₂ ◌&&◌ (ltb-one w) (zero_same ws)
+zero_end words k bits h = rw (drop_of_length-le words h) (and-true (eqb bits 0))
 
 -- whole words below m have no bits from m on
 no_bits-drop : (m : ℕ) (words : List ℕ) (k : ℕ) → ((i : ℕ) → get_or words i 0 < 2 ^ word_bits) → 32 * k ≤ m
@@ -108,37 +98,54 @@ no_bits-drop m (w ∷ ws) (suc k) small h =
     let below : w < 2 ^ m = omega (arith, small 0, pow_mono {i = 32} {j = m} (omega arith)) in
     rw (lt-ltb w (2 ^ m) below, ← e) (no_bits-drop (m - 32) ws k (λ i. small (suc i)) (omega arith))
 
--- no bits from m on: none from m mod 32 on in word m div 32, and none in the words after
-pub no_bits-words : (m : ℕ) (words : List ℕ) → ((i : ℕ) → get_or words i 0 < 2 ^ word_bits) → m / 32 < length words
-    → no_bits_from m words ≡ (eqb (get_or words (m / 32) 0 / 2 ^ (m % 32)) 0 && no_bits_from 0 (drop (m / 32 + 1) words))
-unfolding no_bits_from
-no_bits-words m words small h =
-    let e : m - 32 * (m / 32) ≡ m % 32 = omega arith in
-    let z : m % 32 - 32 ≡ 0 = omega arith in
-    no_bits-drop m words (m / 32) small (omega arith)
-    ∙ rw (e, drop-cons words (m / 32) 0 h, z, ← eqb-shift (get_or words (m / 32) 0) (m % 32), add-one (m / 32))
+module _ (m : ℕ) (words : List ℕ) (size : length words ≡ bitmap_words) (small : (i : ℕ) → get_or words i 0 < 2 ^ word_bits) where
+  -- the words from word m div 32 on
+  abbrev behind : List ℕ
+  behind = take (bitmap_words - m / 32) (drop (m / 32) words)
 
--- and past the last word there are none
-pub no_bits-all-words : (m : ℕ) (words : List ℕ) → ((i : ℕ) → get_or words i 0 < 2 ^ word_bits) → length words ≤ m / 32
-    → no_bits_from m words ≡ true
-unfolding no_bits_from
-no_bits-all-words m words small h =
-    no_bits-drop m words (m / 32) small (omega arith) ∙ rw (drop_of_length-le words h)
+  dropped : no_bits_from m words ≡ no_bits_from (m - 32 * (m / 32)) behind
+  dropped =
+      no_bits-drop m words (m / 32) small (omega arith)
+      ∙ ap (no_bits_from (m - 32 * (m / 32)))
+      (sym (take_all (bitmap_words - m / 32) (drop (m / 32) words) (omega (arith, length-drop (m / 32) words))))
+
+  -- no bits from m on: none from m mod 32 on in word m div 32, and none in the words after
+  pub no_bits_words : {word : ℕ} {rest : List ℕ} → behind ≡ word ∷ rest
+      → no_bits_from m words ≡ (eqb (word / 2 ^ (m % 32)) 0 && no_bits_from 0 rest)
+  unfolding no_bits_from
+  no_bits_words {word} {rest} e =
+      let first : m - 32 * (m / 32) ≡ m % 32 = omega arith in
+      let later : m % 32 - 32 ≡ 0 = omega arith in
+      dropped ∙ rw (e, first, later, ← eqb-shift word (m % 32))
+
+  -- and past the last word there are none
+  pub no_bits_no_words : length behind ≡ 0 → no_bits_from m words ≡ true
+  unfolding no_bits_from
+  no_bits_no_words e = dropped ∙ rw (nil_from_length behind e)
 
 -- ---- changed words
 
--- one more where the two words differ
-pub changes-step : (old new : List ℕ) (k : ℕ) → k < length old → k < length new
-    → length (changes_from k (drop k old) (drop k new))
-    ≡ cond (eqb (get_or old k 0) (get_or new k 0)) 0 1 + length (changes_from (k + 1) (drop (k + 1) old) (drop (k + 1) new))
+-- one more where the first two words differ
+pub changes_step : (k x y : ℕ) (xs ys : List ℕ)
+    → length (changes_from k (x ∷ xs) (y ∷ ys)) ≡ cond (eqb x y) 0 1 + length (changes_from (k + 1) xs ys)
 unfolding changes_from
-changes-step old new k ho hn =
-    rw (drop-cons old k 0 ho, drop-cons new k 0 hn, add-one k)
-    (go (eqb (get_or old k 0) (get_or new k 0)) (changes_from (suc k) (drop (suc k) old) (drop (suc k) new)))
+changes_step k x y xs ys = rw (add-one k) (go (eqb x y) (changes_from (suc k) xs ys))
   where
-    go : (t : Bool) (rest : List Store) → length (cond t rest (k ≔ get_or new k 0 ∷ rest)) ≡ cond t 0 1 + length rest
+    go : (t : Bool) (rest : List Store) → length (cond t rest (k ≔ y ∷ rest)) ≡ cond t 0 1 + length rest
     go true rest = omega arith
     go false rest = omega arith
+
+-- none where one of the two has no words
+pub changes_none_old : (k : ℕ) (xs ys : List ℕ) → length xs ≡ 0 → length (changes_from k xs ys) ≡ 0
+unfolding changes_from
+changes_none_old k [] ys h = refl
+changes_none_old k (x ∷ xs) ys h = absurd (omega arith)
+
+pub changes_none_new : (k : ℕ) (xs ys : List ℕ) → length ys ≡ 0 → length (changes_from k xs ys) ≡ 0
+unfolding changes_from
+changes_none_new k [] ys h = refl
+changes_none_new k (x ∷ xs) [] h = refl
+changes_none_new k (x ∷ xs) (y ∷ ys) h = absurd (omega arith)
 
 -- none past the last word
 pub changes-end : (old new : List ℕ) (k : ℕ) → length old ≤ k → length (changes_from k (drop k old) (drop k new)) ≡ 0

@@ -5,6 +5,7 @@ use mathlib.Core.Path.{◌≡◌, refl, sym, ap, ap₂, ◌∙◌}
 use mathlib.Core.Bool.{Bool, true, false, not, cond, xor, ◌&&◌}
 use mathlib.Core.List.{List, [], ◌∷◌, map}
 use lib.ListN.{length, get_or, set}
+use Rattle.std.proofs.lemmas.List.{set-get_or}
 use Rattle.bitmap.specs.Sizes.{slot_count}
 use Rattle.bitmap.specs.Bits.{bit, bitmap_of, no_bits_from, IsBitmap}
 use Rattle.bitmap.proofs.Laws.Bits.{bitmap_of-bit, bitmap_of-same}
@@ -19,11 +20,11 @@ use Rattle.model.specs.Rules.Reserves.{used_up}
 use Rattle.model.specs.Rules.Touched.{taken_blocks}
 use Rattle.model.specs.Rules.Stores.{changes}
 use Rattle.model.specs.Rules.Commit.{committed_sam, refreshed, committed}
-use Rattle.model_types.proofs.Laws.Shape.{Shaped}
 use Rattle.model.proofs.Laws.Disk.Writes.{no-changes}
 use Rattle.model.proofs.Laws.Memory.Valid.{ValidParts, slot-below}
 use Rattle.model.proofs.Laws.Memory.Fit.{took-is, none-taken}
 use Rattle.model.proofs.Laws.Touched.Touches.{xor_self}
+use Rattle.model_types.specs.Shape.{HasShape}
 
 -- ---- lists
 
@@ -55,12 +56,6 @@ refreshed-same memory slot few is below = go (is_active slot.state)
 
 -- ---- what is reserved
 
--- a reserve put where it was
-set_own : (reserves : List Reserve) (s : ℕ) → set reserves s (get_or reserves s no_reserve) ≡ reserves
-set_own [] s = refl
-set_own (reserve ∷ reserves) zero = refl
-set_own (reserve ∷ reserves) (suc s) = ap (λ (l : List Reserve). reserve ∷ l) (set_own reserves s)
-
 -- a slot whose bitmap is SAM took nothing, so it has drawn nothing that could be used up
 nothing-used : (memory : Memory) (s : ℕ) → ValidParts memory → s < slot_count → memory.sam.words ≡ (slot_at memory s).tam.words
     → memory.reserves ≡ set memory.reserves s (used_up (reserve_at memory s))
@@ -69,14 +64,14 @@ nothing-used memory s parts below same =
     let none : length (taken_blocks memory s) ≡ 0 =
     none-taken memory s (λ b. took-is memory (slot_at memory s) b ∙ ap (λ (words : List ℕ). bit words b && not (sam_bit memory b)) (sym same) ∙ go (sam_bit memory b)) in
     let undrawn : (reserve_at memory s).drawn ≡ 0 = omega (arith, parts.reserves_fit.drawn s below, none) in
-    sym (set_own memory.reserves s) ∙ ap (λ (drawn : ℕ). set memory.reserves s (reserve_of (reserve_at memory s).reservation drawn)) undrawn
+    sym (set-get_or memory.reserves s no_reserve) ∙ ap (λ (drawn : ℕ). set memory.reserves s (reserve_of (reserve_at memory s).reservation drawn)) undrawn
   where
     go : (t : Bool) → (t && not t) ≡ false
     go true = refl
     go false = refl
 
 -- the memory that such a commit leaves, with nothing pending
-pub unchanged-committed : (memory : Memory) (s : ℕ) → Shaped memory → ValidParts memory → s < slot_count → memory.pending ≡ Nothing
+pub unchanged-committed : (memory : Memory) (s : ℕ) → HasShape memory → ValidParts memory → s < slot_count → memory.pending ≡ Nothing
     → committed_sam memory s ≡ (slot_at memory s).tam → length (changes memory.sam.words (slot_at memory s).tam.words) ≡ 0
     → with_slot memory s idle_slot ≡ committed memory s
 unfolding committed

@@ -1,21 +1,17 @@
--- Commit cost: its verdict, and the blocks that its slot has touched, counted over whole bitmaps.
+-- Commit cost: its own causes, behind those of an open slot, and the blocks that its slot has touched, counted over whole bitmaps.
 use Prim.Native.Nat.{ℕ, ◌+◌, ◌^◌, ◌≤◌, ◌<◌}
 use native.Mathlib.Omega.{arith}
-use mathlib.Core.Path.{◌≡◌, ap₂}
-use mathlib.Core.Bool.{Bool, xor, cond}
-use mathlib.Core.Option.{none}
+use mathlib.Core.Path.{◌≡◌, sym, ap, ap₂, ◌∙◌}
+use mathlib.Core.Bool.{xor}
 use mathlib.Core.List.{List}
-use lib.ListN.{length, get_or}
+use lib.ListN.{length}
 use Rattle.bitmap.specs.Sizes.{max_blocks, max_count}
-use Rattle.bitmap.specs.Blocks.{available_blocks}
 use Rattle.bitmap.proofs.Laws.Bits.{no_bits-bit}
 use Rattle.bitmap.proofs.Laws.Blocks.{from-length}
 use Rattle.bitmap.proofs.Laws.Count.{count_past}
 use Rattle.counting.specs.Count.{differing, count_differing}
-use Rattle.model_types.specs.declared.answer.StoresAnswer.{StoresAnswer}
 use Rattle.model_types.specs.declared.memory.Slot.{Slot}
 use Rattle.model_types.specs.declared.memory.Memory.{Memory}
-use Rattle.model_types.specs.Answers.{due}
 use Rattle.model_types.specs.Memory.{slot_at, volume_words}
 use Rattle.model.specs.Rules.First.{first}
 use Rattle.model.specs.Rules.Touched.{touched, touched_blocks}
@@ -23,25 +19,22 @@ use Rattle.model.specs.Rules.Available.{available}
 use Rattle.model.specs.Rules.CauseLists.{open_causes, of_slot, cost_causes}
 use Rattle.model.specs.Rules.Reserves.{others_reserved}
 use Rattle.model.specs.Rules.Calls.Precommit.{precommit_error}
-use Rattle.model.specs.Rules.Calls.CommitCost.{commit_cost_error, cost_for, commit_cost, commit_cost_answer}
+use Rattle.model.specs.Rules.Calls.CommitCost.{commit_cost_error, cost_for, commit_cost}
 use Rattle.model.proofs.Laws.Memory.Valid.{ValidParts, slot-below}
-use Rattle.model.proofs.Laws.Calls.Accepted.{precommit-accepted}
-use Rattle.verdicts.specs.declared.verdict.Verdict.{Verdict}
-use Rattle.verdicts.specs.Verdicts.{verdict, is_accepted, then_causes}
-use Rattle.verdicts.proofs.Laws.Verdicts.{both_read}
-use Rattle.verdicts.proofs.Laws.Frame.{Frame, Judged, open-verdict, others-read}
-use Rattle.causes.proofs.Laws.Available.{counted_is}
+use Rattle.model.proofs.Laws.Calls.Turns.{none-before}
+use Rattle.verdicts.specs.declared.ready.Ready.{Ready}
+use Rattle.verdicts.proofs.Laws.Ready.{Passed}
 
 module _ (memory : Memory) (s count : ℕ) where
-  -- its own causes after those of an open slot
-  pub cost-verdict : {v earlier : Verdict} (counted reserved : ℕ)
-      → v ≡ then_causes earlier (cost_causes counted count reserved)
-      → earlier ≡ verdict (precommit_error memory s)
-      → (precommit_error memory s ≡ none → counted ≡ length (available memory))
-      → (precommit_error memory s ≡ none → reserved ≡ others_reserved memory.reserves s)
-      → v ≡ verdict (commit_cost_error memory s count)
+  -- behind those of an open slot, which are precommit's, what is available and what is reserved for the others decide
+  pub error-is : {ready : Ready} {counted kept : ℕ} → Passed memory s (precommit_error memory s) ready
+      → counted ≡ length (available memory)
+      → kept ≡ others_reserved memory.reserves ready.at
+      → first (cost_causes counted count kept) ≡ commit_cost_error memory s count
   unfolding precommit_error commit_cost_error
-  cost-verdict counted reserved e f g h = both_read (of_slot open_causes memory s) (λ (n m : ℕ). cost_causes n count m) e f g h
+  error-is told e f =
+      ap₂ (λ (n m : ℕ). first (cost_causes n count m)) e (f ∙ ap (others_reserved memory.reserves) told.at-is)
+      ∙ sym (none-before (of_slot open_causes memory s) _ told.none-found)
 
   module _ (parts : ValidParts memory) where
     -- t: the blocks of whole bitmaps are those below m, since no bitmap has bits from m on
@@ -54,32 +47,14 @@ module _ (memory : Memory) (s count : ℕ) where
         (no_bits-bit memory.blocks (slot_at memory s).tam.words b (slot-below memory s parts) h)
         (no_bits-bit memory.blocks memory.sam.words b parts.sam_below h))
 
-    -- accepted, the answer is the cost
-    pub cost-answered : {r words blocks : ℕ} (own : Slot) → own ≡ slot_at memory s → commit_cost_error memory s count ≡ none
+    -- so what is told of them is the cost
+    pub cost-is : {r words blocks : ℕ} (own : Slot) → own ≡ slot_at memory s
         → blocks ≡ count_differing own.tam.words memory.sam.words
         → words ≡ volume_words memory
         → r ≡ cost_for words (blocks + count)
-        → StoresAnswer.Due r ≡ commit_cost_answer memory s count
-    unfolding commit_cost_answer commit_cost due
-    cost-answered own read accepted counted w e = rw (accepted, e, w, counted, read, touched-is)
-
--- the verdict of the call: the causes of an open slot, then its own by what is available and what is reserved for the others
-pub cost-judged : {at : ℕ} {sound : Bool} {memory : Memory} {s : ℕ} {v earlier : Verdict} {accepted : Bool} {counted reserved : ℕ}
-    → Frame memory s at sound
-    → (d : Slot) (count : ℕ)
-    → earlier ≡ verdict (first (open_causes sound memory.pending s (get_or memory.slots at d).state))
-    → reserved ≡ others_reserved memory.reserves at
-    → counted ≡ cond (is_accepted earlier) (length (available_blocks memory.blocks memory.sam.words memory.com.words)) 0
-    → v ≡ then_causes earlier (cost_causes counted count reserved)
-    → accepted ≡ is_accepted v
-    → Judged (commit_cost_error memory s count) v accepted
-cost-judged {memory = memory} {s = s} frame d count e f g h test =
-    let opened = open-verdict frame d e in record {
-      is =
-          cost-verdict memory s count _ _ h opened (counted_is memory _ g opened)
-          (λ passed. others-read frame f (precommit-accepted memory s passed).ready.below);
-      test = test;
-    }
+        → r ≡ commit_cost memory s count
+    unfolding commit_cost
+    cost-is own read counted w e = rw (e, w, counted, read, touched-is)
 
 -- t and the count fit a word
 pub few-touched : {blocks : ℕ} (left right : List ℕ) (count : ℕ) → blocks ≡ count_differing left right → count ≤ max_count → blocks + count < 2 ^ 32

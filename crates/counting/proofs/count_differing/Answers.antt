@@ -1,17 +1,14 @@
--- With word i the count is one of the next word; it is no larger than the blocks; behind the last word all are counted.
-use native.Mathlib.Omega.{arith}
-use Rattle.counting.proofs.Laws.Tally.{counted-few, counted-word, counted-all}
-use Rattle.counting.proofs.Laws.Differing.{differing-word}
+-- A bit of a difference is a block at which the two differ.
+use lib.Bits.{bit_xor}
+use Rattle.std.proofs.Common.{rules}
+use Rattle.bitmap.specs.Bits.{IsBitmap}
+use Rattle.counting.proofs.Laws.Words.{ones-differing}
 use Rattle.counting.proofs.count_differing.Goals as goal
 
-pub overflow_add-count : goal.overflow_add-count
-overflow_add-count c =
-    let word = differing-word c.args.left.now c.args.right.now c.loop-i.i c.requires.bitmap c.requires.bitmap_2 in
-    omega (arith, counted-few (counted-word word c.loop-i.invariant))
-
-pub loop-i-preserved : goal.loop-i-preserved
-loop-i-preserved c =
-    counted-word (differing-word c.args.left.now c.args.right.now c.loop-i.i c.requires.bitmap c.requires.bitmap_2) c.loop-i.invariant
-
 pub returns : goal.returns
-returns c = counted-all c.loop-i.invariant (omega arith)
+returns c =
+    let is_left : IsBitmap c.args.left.now = record { size = c.told-left; small = c.fits-left } in
+    let is_right : IsBitmap c.args.right.now = record { size = c.told-right; small = c.fits-right } in
+    let counted = c.count.ensures bit_xor (λ x y w p. search (p, rules)) in
+    let all = ones-differing c.args.left.now c.args.right.now is_left is_right in
+    cc

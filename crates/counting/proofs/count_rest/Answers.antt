@@ -17,6 +17,6 @@ returns c =
     rw c.available_word.ensures
     (omega (
       arith,
-      available-count a.blocks a.sam.now a.«com».now k c.requires.bitmap c.requires.bitmap_2,
+      available-count a.blocks a.sam.now a.«com».now k (record { size = c.told-sam; small = c.fits-sam }) (record { size = c.told-com; small = c.fits-com }),
       available-none a.blocks a.sam.now a.«com».now (32 * (k + 1)) (omega arith),
     ))

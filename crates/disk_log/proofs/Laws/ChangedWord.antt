@@ -1,26 +1,31 @@
--- The changed words from one on: a word that stays is passed, one that changes is the next.
-use Prim.Native.Nat.{ℕ, ◌+◌, ◌<◌}
-use mathlib.Core.Path.{◌≡◌}
-use mathlib.Core.List.{List, ◌∷◌}
+-- The changed words of two lists, by their first: a word that stays is passed, one that changes is the next.
+use Prim.Native.Nat.{ℕ, ◌+◌}
+use mathlib.Core.Path.{◌≡◌, refl}
+use mathlib.Core.List.{List, [], ◌∷◌}
 use native.Mathlib.Numerals.{add-one}
-use native.Mathlib.Omega.{arith}
-use lib.ListN.{length, get_or, drop}
-use lib.Seq.{drop-cons}
+use native.Mathlib.Nat.{suc-ne-zero}
+use lib.ListN.{length}
 use borrow.Author.Tests.{eq-eqb, ne_eqb}
-use Rattle.bitmap.specs.Sizes.{bitmap_words}
-use Rattle.model.specs.Rules.Stores.{Store, ◌≔◌, changes_from}
+use Rattle.model.specs.Rules.Stores.{◌≔◌, changes_from}
 
--- those of two bitmaps from word k on
-abbrev pub changes_at : List ℕ → List ℕ → ℕ → List Store
-changes_at old new k = changes_from k (drop k old) (drop k new)
+pub word-stays : (k : ℕ) {was will : ℕ} {olds news os ns : List ℕ} → olds ≡ was ∷ os → news ≡ will ∷ ns → was ≡ will
+    → changes_from k olds news ≡ changes_from (k + 1) os ns
+unfolding changes_from
+word-stays k {was} {will} o n e = rw (o, n, add-one k, eq-eqb was will e)
 
-module _ (old new : List ℕ) (k : ℕ) (o : length old ≡ bitmap_words) (n : length new ≡ bitmap_words) (h : k < bitmap_words) where
-  pub word-stays : get_or old k 0 ≡ get_or new k 0 → changes_at old new k ≡ changes_at old new (k + 1)
-  unfolding changes_from
-  word-stays e =
-      rw (drop-cons old k 0 (omega arith), drop-cons new k 0 (omega arith), add-one k, eq-eqb (get_or old k 0) (get_or new k 0) e)
+pub word-changes : (k : ℕ) {was will : ℕ} {olds news os ns : List ℕ} → olds ≡ was ∷ os → news ≡ will ∷ ns → (was ≡ will → ⊥)
+    → changes_from k olds news ≡ k ≔ will ∷ changes_from (k + 1) os ns
+unfolding changes_from
+word-changes k {was} {will} o n ne = rw (o, n, add-one k, ne_eqb was will ne)
 
-  pub word-changes : (get_or old k 0 ≡ get_or new k 0 → ⊥) → changes_at old new k ≡ k ≔ get_or new k 0 ∷ changes_at old new (k + 1)
-  unfolding changes_from
-  word-changes ne =
-      rw (drop-cons old k 0 (omega arith), drop-cons new k 0 (omega arith), add-one k, ne_eqb (get_or old k 0) (get_or new k 0) ne)
+-- where no word is, none changes
+pub no-old : (k : ℕ) (olds news : List ℕ) → length olds ≡ 0 → length (changes_from k olds news) ≡ 0
+unfolding changes_from
+no-old k [] news e = refl
+no-old k (old ∷ olds) news e = absurd (suc-ne-zero (length olds) e)
+
+pub no-new : (k : ℕ) (olds news : List ℕ) → length news ≡ 0 → length (changes_from k olds news) ≡ 0
+unfolding changes_from
+no-new k [] news e = refl
+no-new k (old ∷ olds) [] e = refl
+no-new k (old ∷ olds) (new ∷ news) e = absurd (suc-ne-zero (length news) e)

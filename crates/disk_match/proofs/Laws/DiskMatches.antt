@@ -20,7 +20,6 @@ use Rattle.model.proofs.Laws.Disk.Parts.{disk-parts, disk-bitmap-length, disk-ta
 use Rattle.model.proofs.Laws.Disk.CommitLog.{CommitFrom, changes-from, commit_disk, commit-before, commit-after}
 use Rattle.disk_log.specs.declared.phase.Phase.{Phase}
 use Rattle.disk_log.specs.declared.phase.Phase.TheVariants.{Log, Point, Word, Closing}
-use Rattle.disk_log.specs.Given.{Changing}
 use Rattle.disk_log.specs.Phase.{InPhase, log_length_in, checkpointed_in}
 use Rattle.disk_log.proofs.Laws.Tests.{and_right, same-append}
 use Rattle.disk_match.specs.Matching.{head_is, kept_match, changed_match}
@@ -64,15 +63,17 @@ commit-parts blocks sam log es done phase from = go phase
     go Closing is = past d is (omega arith)
 
 -- while a commit is stored: words 0 and 1, the bitmap words that stay, and those that change with the log's
-pub commit-tests : (blocks : ℕ) (disk sam new : List ℕ) {changed : ℕ} (done : ℕ) (phase : Phase) → length disk ≡ disk_words → Changing sam new changed
+pub commit-tests : (blocks : ℕ) (disk sam new : List ℕ) {changed : ℕ} (done : ℕ) (phase : Phase) → length disk ≡ disk_words → length sam ≡ bitmap_words
+    → length new ≡ bitmap_words
+    → changed ≡ length (changes sam new)
     → InPhase changed done phase
     → image_matches blocks sam disk done (commit_stores (changes sam new))
     ≡ (head_is disk blocks (log_length_in phase changed)
     && kept_match disk 0 sam new
     && changed_match disk done (checkpointed_in phase changed) 0 0 sam new)
 unfolding image_matches
-commit-tests blocks disk sam new {changed} done phase l given is =
-    ap (same_words disk) (commit-parts blocks sam log es done phase (changes-from sam new log s (disk-tail-length disk l)) (subst (λ (n : ℕ). InPhase n done phase) given.changed_is is))
+commit-tests blocks disk sam new {changed} done phase l s n changed_is is =
+    ap (same_words disk) (commit-parts blocks sam log es done phase (changes-from sam new log s (disk-tail-length disk l)) (subst (λ (n : ℕ). InPhase n done phase) changed_is is))
     ∙ disk-same
     disk
     blocks
@@ -83,11 +84,8 @@ commit-tests blocks disk sam new {changed} done phase l given is =
     (length-writes (take checkpointed es) sam ∙ s)
     ∙ ap (λ (t : Bool). head_is disk blocks (log_length_in phase (length es)) && t) (sym words)
     ∙ sym (and_assoc (head_is disk blocks (log_length_in phase (length es))) (kept_match disk 0 sam new) (changed_match disk done checkpointed 0 0 sam new))
-    ∙ rw given.changed_is
+    ∙ rw changed_is
   where
-    s : length sam ≡ bitmap_words
-    s = given.old_is.size
-
     log : List ℕ
     log = drop log_at disk
 
@@ -100,7 +98,7 @@ commit-tests blocks disk sam new {changed} done phase l given is =
     words : (kept_match disk 0 sam new && changed_match disk done checkpointed 0 0 sam new)
         ≡ (same_words (disk_bitmap disk) (writes (take checkpointed es) sam) && same_words log (writes (take done (log_stores 0 es)) log))
     words =
-        words-match disk done checkpointed 0 0 sam new (s ∙ sym given.new_is.size) (omega arith)
+        words-match disk done checkpointed 0 0 sam new (s ∙ sym n) (omega arith)
         ∙ ap₂ ◌&&◌
         (ap₂
         (λ (n : ℕ) (w : List ℕ). same_words (take n (drop bitmap_at disk)) w)

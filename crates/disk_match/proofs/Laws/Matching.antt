@@ -19,7 +19,7 @@ use Rattle.disk_match.proofs.Laws.Checkpointed.{checkpoint, checkpointed-same, c
 use Rattle.disk_match.proofs.Laws.LogWords.{log_matches}
 
 -- a part of the disk's bitmap, by its first word
-part-first : (disk : List ℕ) (k n : ℕ) → bitmap_at + k < length disk
+pub part-first : (disk : List ℕ) (k n : ℕ) → bitmap_at + k < length disk
     → take (suc n) (drop (bitmap_at + k) disk) ≡ get_or disk (bitmap_at + k) 0 ∷ take n (drop (bitmap_at + suc k) disk)
 part-first disk k n h =
     ap (take (suc n)) (drop-cons disk (bitmap_at + k) 0 h)

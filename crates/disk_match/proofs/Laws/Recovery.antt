@@ -1,41 +1,37 @@
 -- A recovery in hand: the log's entries compared with SAM one by one, and all that cause 6 asks.
-use Prim.Native.Nat.{ℕ, ◌+◌, ◌-◌, ◌*◌, ◌≤◌, ◌<◌}
+use Prim.Native.Nat.{ℕ, ◌+◌, ◌-◌, ◌≤◌, ◌<◌}
 use mathlib.Core.Path.{◌≡◌}
 use mathlib.Core.Bool.{true, ◌&&◌}
-use mathlib.Core.List.{List}
+use mathlib.Core.List.{List, [], map}
 use native.Mathlib.Numerals.{add-one}
 use native.Mathlib.Omega.{arith}
-use lib.ListN.{get_or, drop, drop_of_length-le}
+use lib.ListN.{length, get_or, drop, drop_of_length-le}
+use lib.Seq.{drop-cons}
 use lib.Dec.{eqb}
 use borrow.Author.Tests.{eqb-true}
-use Rattle.model.specs.Rules.Sizes.{log_at}
 use Rattle.bitmap.specs.Bits.{no_bits_from}
 use Rattle.model.specs.Rules.Stores.{writes}
 use Rattle.model.specs.Rules.Valid.{same_words}
 use Rattle.model.specs.Rules.Disk.{disk_blocks, disk_bitmap, log_length, log_entries, log_valid, entries_agree, recovery_matches}
 use Rattle.model.proofs.Laws.Disk.Writes.{and_first, and_second}
-use Rattle.disk_log.specs.Given.{Logged}
+use Rattle.disk_log.specs.Given.{entry_of}
 use Rattle.disk_log.proofs.Laws.Tests.{eqb_same}
-use Rattle.model.proofs.Laws.Disk.Parts.{entries-count}
-use Rattle.disk_log.proofs.Laws.Log.{entry_at}
-use Rattle.disk_log.proofs.Laws.Given.{logged-few}
 use Rattle.disk_match.specs.Matching.{head_is, log_agrees}
 
 -- ---- the entries compared with a bitmap
 
-module _ (disk words : List ℕ) (logged : Logged disk) where
-  -- the entries from i on, by entry i and those behind it
-  pub agree-step : (i : ℕ) {number contents : ℕ} → i < log_length disk
-      → number ≡ get_or disk (log_at + 2 * i) 0
-      → contents ≡ get_or disk (log_at + 2 * i + 1) 0
-      → entries_agree words (drop i (log_entries disk)) ≡ (eqb (get_or words number 0) contents && entries_agree words (drop (i + 1) (log_entries disk)))
+module _ (words : List ℕ) (es : List (List ℕ)) (i : ℕ) where
+  -- the entries from one on, by it and those behind it
+  pub agree-step : i < length es
+      → entries_agree words (map entry_of (drop i es))
+      ≡ (eqb (get_or words (get_or (get_or es i []) 0 0) 0) (get_or (get_or es i []) 1 0) && entries_agree words (map entry_of (drop (i + 1) es)))
   unfolding entries_agree
-  agree-step i h n v = rw (entry_at disk i logged.size (logged-few disk logged) h, add-one i, n, v)
+  agree-step h = rw (drop-cons es i [] h, add-one i)
 
   -- behind the last entry there is none
-  pub agree-end : (i : ℕ) → log_length disk ≤ i → entries_agree words (drop i (log_entries disk)) ≡ true
+  pub agree-end : length es ≤ i → entries_agree words (map entry_of (drop i es)) ≡ true
   unfolding entries_agree
-  agree-end i h = rw (drop_of_length-le (log_entries disk) {i = i} (omega (arith, entries-count disk logged.size (logged-few disk logged))))
+  agree-end h = rw (drop_of_length-le es {i = i} h)
 
 -- ---- a log that agrees
 

@@ -13,7 +13,8 @@ use Rattle.model_types.specs.declared.memory.Memory.{Memory}
 use Rattle.model_types.specs.Memory.{slot_at, reserve_at, idle_slot, is_active, with_sam, with_slots, with_reserve, with_pending}
 use Rattle.model.specs.Rules.Reserves.{used_up}
 use Rattle.model.specs.Rules.Commit.{committed_sam, refreshed, committed}
-use Rattle.model_types.proofs.Laws.Shape.{Shaped, empty-is}
+use Rattle.model_types.specs.Shape.{HasShape}
+use Rattle.model_types.proofs.Laws.Shape.{empty-is}
 use Rattle.model.proofs.Laws.Memory.Valid.{ValidParts, slot-below, no_bits-empty}
 use Rattle.model.proofs.Laws.Commit.Committed.{committed-bitmap, committed-below}
 use Rattle.model.proofs.Laws.Commit.CommittedTam.{committed-tam}
@@ -26,7 +27,7 @@ map_each : (f g : Slot → Slot) (slots : List Slot) → ((t : ℕ) → f (get_o
 map_each f g [] h = refl
 map_each f g (slot ∷ slots) h = ap₂ ◌∷◌ (h 0) (map_each f g slots (λ t. h (suc t)))
 
-module _ (memory : Memory) (s : ℕ) (shape : Shaped memory) (parts : ValidParts memory) (active : is_active (slot_at memory s).state ≡ true) where
+module _ (memory : Memory) (s : ℕ) (shape : HasShape memory) (parts : ValidParts memory) (active : is_active (slot_at memory s).state ≡ true) where
   sam-is : committed_sam memory s ≡ (slot_at memory s).tam
   sam-is = committed-tam memory s parts (shape.tam s) active
 

@@ -11,7 +11,7 @@ use Rattle.model_types.specs.declared.memory.Slot.{Slot}
 use Rattle.model_types.specs.declared.memory.Memory.{Memory}
 use Rattle.model_types.specs.Memory.{bitmap, with_tam, idle_slot, is_active}
 use Rattle.model.specs.Rules.Commit.{refreshed}
-use Rattle.model_types.proofs.Laws.Shape.{Shaped}
+use Rattle.model_types.specs.Shape.{HasShape}
 use Rattle.model.proofs.Laws.Memory.Valid.{ValidParts}
 use Rattle.ending.specs.Ended.{refreshed_slot}
 
@@ -27,7 +27,7 @@ unfolding refreshed_slot
 active-refreshed old new slot words e made = rw (made, e)
 
 -- whole words make the bits that the model names
-pub refreshed-slot : (memory : Memory) (sam : Bitmap) (slot : Slot) → Shaped memory → ValidParts memory
+pub refreshed-slot : (memory : Memory) (sam : Bitmap) (slot : Slot) → HasShape memory → ValidParts memory
     → IsBitmap sam.words → no_bits_from memory.blocks sam.words ≡ true
     → IsBitmap slot.tam.words → no_bits_from memory.blocks slot.tam.words ≡ true
     → refreshed_slot memory.sam.words sam.words slot ≡ refreshed memory sam slot

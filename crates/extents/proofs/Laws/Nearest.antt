@@ -18,16 +18,15 @@ use Rattle.bitmap.proofs.Laws.Word.{is_set-zero, is_set-small, is_set-cut, is_se
 use Rattle.bitmap.proofs.Laws.Bits.{below-or-from, bit_word}
 use Rattle.bitmap.proofs.Laws.Blocks.{member-cons, member-from-true, member-first, member-from, from-rest}
 use Rattle.bitmap.proofs.Laws.Extents.{member-some, nearest-is, nearest-none}
-use Rattle.bitmap.proofs.Laws.Search.{WordAt}
-use Rattle.extents.specs.Starts.{AreWords, NoneFrom}
+use Rattle.available.specs.Search.{IsWord}
+use Rattle.extents.specs.Starts.{NoneFrom}
 use Rattle.extents.specs.Nearest.{next_start, end_before, CanLook}
 
 -- ---- above
 
--- p's word in a search upwards
-pub start-at : {m p : ℕ} {words : List ℕ} → AreWords words → NoneFrom m words → WordAt (bit words) m p (get_or words (p / 32) 0)
-start-at {m} {p} {words} are none =
-    record { small = are.small (p / 32); bits = λ i h. sym (bit_word words (p / 32) i h); past = none }
+-- the words of the starts
+pub start-word : (words : List ℕ) → ((k : ℕ) → get_or words k 0 < 2 ^ 32) → (k word : ℕ) → word ≡ get_or words k 0 → IsWord (bit words) k word
+start-word words small k word is = rw is (record { small = small k; bits = λ i h. sym (bit_word words k i h) })
 
 -- ---- below
 
@@ -46,7 +45,7 @@ end-here : (words : List ℕ) (p : ℕ) → bit words p ≡ true → end_before 
 unfolding end_before
 end-here words p e = ap (λ (t : Bool). cond t (suc p) (end_before words p)) e
 
-module _ {words : List ℕ} (are : AreWords words) (last : ℕ) where
+module _ (words : List ℕ) (last : ℕ) where
   abbrev word : ℕ
   word = get_or words (last / 32) 0
 

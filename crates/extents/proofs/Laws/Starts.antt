@@ -6,9 +6,7 @@ use mathlib.Core.Logic.{⊎_elim}
 use mathlib.Core.Bool.{Bool, true, false, ◌&&◌, ◌||◌, or-false}
 use mathlib.Core.List.{List}
 use lib.ListN.{get_or}
-use lib.Bits.{bit_and, bit_or, and_le_l}
-use lib.Pow.{pow_pos}
-use native.Mathlib.Nat.{lt_of_le_of_lt}
+use lib.Bits.{bit_and, bit_or}
 use Rattle.bitmap.specs.Sizes.{word_bits, words_for}
 use Rattle.bitmap.specs.Bits.{is_set, bit, IsBitmap}
 use Rattle.bitmap.specs.Blocks.{is_available}
@@ -17,9 +15,9 @@ use Rattle.bitmap.proofs.Laws.Word.{is_set-zero, is_set-small, is_set-and, is_se
 use Rattle.bitmap.proofs.Laws.Bits.{below-or-from, bit_word}
 use Rattle.bitmap.proofs.Laws.Extents.{start-within, start-one, start-longer}
 use Rattle.available.specs.Available.{available_word}
-use Rattle.available.proofs.Laws.Available.{is_available_in, available_in-past, available-bits, available_word-lt}
-use Rattle.extents.specs.Starts.{AreWords, AreZeros, AreStarts, NoneFrom, Narrowed}
-use Rattle.extents.proofs.Laws.Words.{Renewed, renewed-before, renewed-from, renewed-are}
+use Rattle.available.proofs.Laws.Available.{is_available_in, available_in-past, available-bits}
+use Rattle.extents.specs.Starts.{AreZeros, AreStarts, NoneFrom, Narrowed}
+use Rattle.extents.proofs.Laws.Words.{Renewed, renewed-before, renewed-from}
 
 -- ---- extents of one block
 
@@ -42,38 +40,28 @@ module _ (m : ℕ) (sam «com» : List ℕ) {old words : List ℕ} (hs : IsBitma
 
       past : words_for m ≤ b / 32 → is_set (get_or words (b / 32) 0) (b % 32) ≡ is_available_in m sam «com» b
       past h =
-          ap (λ (w : ℕ). is_set w (b % 32)) (renewed-from all (b / 32) h ∙ zeros.zero (b / 32))
+          ap (λ (w : ℕ). is_set w (b % 32)) (renewed-from all (b / 32) h ∙ zeros (b / 32))
           ∙ is_set-zero (b % 32)
           ∙ sym (available_in-past m sam «com» b (omega arith))
 
   pub available-starts : AreStarts m sam «com» 1 words
-  available-starts =
-      record {
-        are = renewed-are all (λ j h. available_word-lt m sam «com» j) (λ j. rw (zeros.zero j) (pow_pos 32));
-        bits = λ b. available-bit b ∙ one-available m sam «com» b;
-      }
+  available-starts b = available-bit b ∙ one-available m sam «com» b
 
 -- ---- longer extents
 
 -- no extent starts from m on
-pub starts-end : (m n : ℕ) (sam «com» : List ℕ) {words : List ℕ} → 1 ≤ n → AreStarts m sam «com» n words → NoneFrom m words
-starts-end m n sam «com» some so b h = so.bits b ∙ go (is_start (is_available sam «com») m n b) refl
+pub starts-end : (m n : ℕ) (sam «com» words : List ℕ) → 1 ≤ n → AreStarts m sam «com» n words → NoneFrom m words
+starts-end m n sam «com» words some so b h = so b ∙ go (is_start (is_available sam «com») m n b) refl
   where
     go : (t : Bool) → is_start (is_available sam «com») m n b ≡ t → is_start (is_available sam «com») m n b ≡ false
     go true e = absurd (omega (arith, start-within (is_available sam «com») m n b e))
     go false e = e
 
 -- those that have another one so far above are the starts of extents longer by as much
-pub longer : (m n k : ℕ) (sam «com» : List ℕ) {before after : List ℕ} → k ≤ n → AreStarts m sam «com» n before → Narrowed k before after
+pub longer : (m n k : ℕ) (sam «com» before after : List ℕ) → k ≤ n → AreStarts m sam «com» n before → Narrowed k before after
     → AreStarts m sam «com» (n + k) after
-longer m n k sam «com» h so narrowed =
-    record {
-      are = narrowed.are;
-      bits = λ b.
-          narrowed.bits b
-          ∙ ap₂ ◌&&◌ (so.bits b) (so.bits (b + k))
-          ∙ sym (start-longer (is_available sam «com») m n k b h);
-    }
+longer m n k sam «com» before after h so narrowed b =
+    narrowed b ∙ ap₂ ◌&&◌ (so b) (so (b + k)) ∙ sym (start-longer (is_available sam «com») m n k b h)
 
 -- a word and the next one
 abbrev pub pair_of : List ℕ → ℕ → ℕ
@@ -83,10 +71,7 @@ pair_of words k = bit_or (get_or words k 0) (get_or words (k + 1) 0 * 2 ^ 32 % 2
 abbrev pub narrowed_word : ℕ → List ℕ → ℕ → ℕ
 narrowed_word shift words k = bit_and (get_or words k 0) (pair_of words k / 2 ^ shift)
 
-pub narrowed-small : (shift : ℕ) (words : List ℕ) → AreWords words → (k : ℕ) → narrowed_word shift words k < 2 ^ word_bits
-narrowed-small shift words are k = lt_of_le_of_lt (and_le_l (get_or words k 0) (pair_of words k / 2 ^ shift)) (are.small k)
-
-module _ (before : List ℕ) (are : AreWords before) (shift : ℕ) (few : shift ≤ 32) where
+module _ (before : List ℕ) (small : (k : ℕ) → get_or before k 0 < 2 ^ word_bits) (shift : ℕ) (few : shift ≤ 32) where
   -- the two words together have the blocks of both
   pair-bit : (k i : ℕ) → i < 64 → is_set (pair_of before k) i ≡ bit before (32 * k + i)
   pair-bit k i h =
@@ -104,7 +89,7 @@ module _ (before : List ℕ) (are : AreWords before) (shift : ℕ) (few : shift 
       high l =
           let above : 32 + (i - 32) ≡ i = omega arith in
           let place : 32 * (k + 1) + (i - 32) ≡ 32 * k + i = omega arith in
-          ap₂ ◌||◌ (is_set-small (get_or before k 0) 32 i (are.small k) l)
+          ap₂ ◌||◌ (is_set-small (get_or before k 0) 32 i (small k) l)
           (sym (ap (is_set (get_or before (k + 1) 0 * 2 ^ 32)) above) ∙ is_set-up (get_or before (k + 1) 0) 32 (i - 32))
           ∙ sym (bit_word before (k + 1) (i - 32) (omega arith))
           ∙ ap (bit before) place
@@ -119,11 +104,7 @@ module _ (before : List ℕ) (are : AreWords before) (shift : ℕ) (few : shift 
   -- all words but those with no bits
   pub all-narrowed : (words : ℕ) (after : List ℕ) → NoneFrom (word_bits * words) before → Renewed words (narrowed_word shift before) before after → Narrowed shift before after
   unfolding bit
-  all-narrowed words after none all =
-      record {
-        are = renewed-are all (λ j h. narrowed-small shift before are j) are.small;
-        bits = λ b. ⊎_elim (within b) (past b) (below-or-from (b / 32) words);
-      }
+  all-narrowed words after none all b = ⊎_elim (within b) (past b) (below-or-from (b / 32) words)
     where
       within : (b : ℕ) → b / 32 < words → bit after b ≡ (bit before b && bit before (b + shift))
       within b h =

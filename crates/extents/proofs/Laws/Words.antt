@@ -1,5 +1,5 @@
 -- Words made anew one after the other: the first k are new, the others are as they were.
-use Prim.Native.Nat.{ℕ, ◌+◌, ◌≤◌, ◌<◌, ◌^◌}
+use Prim.Native.Nat.{ℕ, ◌+◌, ◌≤◌, ◌<◌}
 use native.Mathlib.Decide.{ℕ_discrete}
 use native.Mathlib.Omega.{arith}
 use mathlib.Core.Path.{◌≡◌, refl, sym, ap, ◌∙◌}
@@ -9,16 +9,11 @@ use lib.ListN.{length, get_or, set, length-set}
 use lib.Seq.{get_or-set_same, get_or-set_other}
 use lib.Dec.{ltb}
 use borrow.Author.Tests.{ltb-true, ltb-false, lt-ltb, le-ltb}
-use Rattle.bitmap.specs.Sizes.{word_bits}
-use Rattle.extents.specs.Starts.{start_words, AreWords}
+use Rattle.extents.specs.Starts.{start_words}
 
 pub record Renewed (k : ℕ) (new : ℕ → ℕ) (old words : List ℕ) : Type 0 where
   pub size : length words ≡ start_words
   pub word : (j : ℕ) → get_or words j 0 ≡ cond (ltb j k) (new j) (get_or old j 0)
-
--- none is new at first
-pub none-renewed : (new : ℕ → ℕ) (old : List ℕ) → length old ≡ start_words → Renewed 0 new old old
-none-renewed new old size = record { size = size; word = λ j. ap (λ (t : Bool). cond t (new j) (get_or old j 0)) (sym (le-ltb j 0 (omega arith))) }
 
 module _ {k : ℕ} {new : ℕ → ℕ} {old words : List ℕ} (so : Renewed k new old words) where
   pub renewed-before : (j : ℕ) → j < k → get_or words j 0 ≡ new j
@@ -50,11 +45,3 @@ module _ {k : ℕ} {new : ℕ → ℕ} {old words : List ℕ} (so : Renewed k ne
           same : (t : Bool) → ltb j k ≡ t → ltb j k ≡ ltb j (k + 1)
           same true f = f ∙ sym (lt-ltb j (k + 1) (omega (arith, ltb-true j k f)))
           same false f = f ∙ sym (le-ltb j (k + 1) (omega (arith, ltb-false j k f)))
-
-  -- small words, if the new and the old ones are
-  pub renewed-are : ((j : ℕ) → j < k → new j < 2 ^ word_bits) → ((j : ℕ) → get_or old j 0 < 2 ^ word_bits) → AreWords words
-  renewed-are small-new small-old = record { size = so.size; small = λ j. rw (so.word j) (go j (ltb j k) refl) }
-    where
-      go : (j : ℕ) (t : Bool) → ltb j k ≡ t → cond t (new j) (get_or old j 0) < 2 ^ word_bits
-      go j true e = small-new j (ltb-true j k e)
-      go j false e = small-old j

@@ -2,3 +2,4 @@
 pub mod First
 pub mod Accepted
 pub mod Answered
+pub mod Turns

@@ -2,7 +2,7 @@
 -- serves an open seat, 'revoke' a precommitted one."
 use Rattle.std.specs.Prelude.{ℕ, ◌+◌, ◌<◌, ◌≡◌, cond, set}
 use Rattle.bitmap.specs.Sizes.{slot_count}
-use Rattle.model.specs.Types.{SlotState, Idle, Open, Precommitted, Nothing, Memory, Answer, StoresAnswer, SlotIdle, SlotPrecommitted, SlotNotPrecommitted}
+use Rattle.model.specs.Types.{SlotState, Idle, Open, Precommitted, Nothing, Memory, SlotIdle, SlotPrecommitted, SlotNotPrecommitted, Answer, Ok, Err, ⊤}
 use Rattle.model_types.specs.Memory.{slot_at, reserve_at, reserve_of, idle_slot, sam_bit, com_bit}
 use Rattle.model.specs.Rules.Touched.{touched}
 use Rattle.model.specs.Rules.Calls.Drop.{drop_answer, drop_memory}
@@ -28,11 +28,11 @@ pub record Ends (state : SlotState) (memory : Memory) (s : ℕ) (after : Memory)
 
 -- a drop that is done ends an open slot's transaction, a revoke a precommitted one's
 abbrev pub DropEndsOpen : Type 0
-DropEndsOpen = (memory : Memory) (s : ℕ) → drop_answer memory s ≡ Answer.Done → Ends Open memory s (drop_memory memory s)
+DropEndsOpen = (memory : Memory) (s : ℕ) → drop_answer memory s ≡ Ok tt → Ends Open memory s (drop_memory memory s)
 
 abbrev pub RevokeEndsPrecommitted : Type 0
 RevokeEndsPrecommitted =
-    (memory : Memory) (s : ℕ) → revoke_answer memory s ≡ StoresAnswer.Due 0 → Ends Precommitted memory s (revoke_memory memory s)
+    (memory : Memory) (s : ℕ) → revoke_answer memory s ≡ Ok 0 → Ends Precommitted memory s (revoke_memory memory s)
 
 -- no drop alters anything where the slot is precommitted, and no revoke where it is open, whatever else the memory is
 abbrev pub DropSparesPrecommitted : Type 0
@@ -42,15 +42,15 @@ abbrev pub RevokeSparesOpen : Type 0
 RevokeSparesOpen = (memory : Memory) (s : ℕ) → (slot_at memory s).state ≡ Open → revoke_memory memory s ≡ memory
 
 -- what each answers by the slot's state alone
-abbrev pub drop_for : SlotState → Answer
-drop_for Idle = Answer.Refused SlotIdle
-drop_for Open = Answer.Done
-drop_for Precommitted = Answer.Refused SlotPrecommitted
+abbrev pub drop_for : SlotState → Answer ⊤
+drop_for Idle = Err SlotIdle
+drop_for Open = Ok tt
+drop_for Precommitted = Err SlotPrecommitted
 
-abbrev pub revoke_for : SlotState → StoresAnswer
-revoke_for Idle = StoresAnswer.Refused SlotIdle
-revoke_for Open = StoresAnswer.Refused SlotNotPrecommitted
-revoke_for Precommitted = StoresAnswer.Due 0
+abbrev pub revoke_for : SlotState → Answer ℕ
+revoke_for Idle = Err SlotIdle
+revoke_for Open = Err SlotNotPrecommitted
+revoke_for Precommitted = Ok 0
 
 -- so each does for every slot of a valid memory with nothing pending: an active slot's transaction can always be ended, by just
 -- one of the two

@@ -3,7 +3,7 @@
 use Rattle.std.specs.Prelude.{ℕ, ◌+◌, ◌≤◌, ◌<◌, ◌≡◌, true, List, length, get_or}
 use Rattle.bitmap.specs.Blocks.{is_available}
 use Rattle.bitmap.specs.Extents.{distance}
-use Rattle.model.specs.Types.{Memory, GrantAnswer, NoExtent}
+use Rattle.model.specs.Types.{Memory, NoExtent, Ok, Err}
 use Rattle.model.specs.Rules.Available.{available}
 use Rattle.model.specs.Rules.Reserves.{others_reserved}
 use Rattle.model.specs.Promises.FourCounts.{OfValid, Eligible}
@@ -23,7 +23,7 @@ pub record Nearest (memory : Memory) (count near b : ℕ) : Type 0 where
 abbrev pub GrantsNearest : Type 0
 GrantsNearest =
     (memory : Memory) (s count near : ℕ) (list : List ℕ) (b : ℕ)
-    → allocate_extent_answer memory s count near list ≡ GrantAnswer.First b
+    → allocate_extent_answer memory s count near list ≡ Ok b
     → Nearest memory count near b
 
 -- the list as long as before, with b and the blocks after it in its first places, the later places as they were
@@ -35,7 +35,7 @@ pub record ListsAdjoining (count b : ℕ) (list after : List ℕ) : Type 0 where
 abbrev pub ListsExtent : Type 0
 ListsExtent =
     (memory : Memory) (s count near : ℕ) (list : List ℕ) (b : ℕ)
-    → allocate_extent_answer memory s count near list ≡ GrantAnswer.First b
+    → allocate_extent_answer memory s count near list ≡ Ok b
     → ListsAdjoining count b list (allocate_extent_list memory s count near list)
 
 -- where there is an extent, one is granted if only the want of one could refuse it, and it leaves what is reserved for the other slots
@@ -44,19 +44,19 @@ FindsExtent =
     OfValid (λ memory. (s count near : ℕ) (list : List ℕ) → Eligible memory s count list → near < memory.blocks
     → (c : ℕ) → IsExtent memory count c
     → count + others_reserved memory.reserves s ≤ length (available memory)
-    → (b : ℕ) × (allocate_extent_answer memory s count near list ≡ GrantAnswer.First b))
+    → (b : ℕ) × (allocate_extent_answer memory s count near list ≡ Ok b))
 
 -- and where 22 is answered there is none
 abbrev pub NoneToFind : Type 0
 NoneToFind =
     (memory : Memory) (s count near : ℕ) (list : List ℕ)
-    → allocate_extent_answer memory s count near list ≡ GrantAnswer.Refused NoExtent
+    → allocate_extent_answer memory s count near list ≡ Err NoExtent
     → (c : ℕ) → IsExtent memory count c → ⊥
 
 -- a single block is the named one where that is available
 abbrev pub GrantsNamed : Type 0
 GrantsNamed =
     (memory : Memory) (s near : ℕ) (list : List ℕ) (b : ℕ)
-    → allocate_extent_answer memory s 1 near list ≡ GrantAnswer.First b
+    → allocate_extent_answer memory s 1 near list ≡ Ok b
     → is_available memory.sam.words memory.com.words near ≡ true
     → b ≡ near

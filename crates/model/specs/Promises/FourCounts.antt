@@ -2,7 +2,7 @@
 -- since seven were spoken for": how many blocks can be had is the available count.
 use Rattle.std.specs.Prelude.{ℕ, ◌+◌, ◌≤◌, ◌<◌, ◌≡◌, true, List, length, get_or, ltb}
 use Rattle.bitmap.specs.Sizes.{slot_count, max_count}
-use Rattle.model.specs.Types.{Open, Nothing, Memory, GrantAnswer, StatusAnswer, TooFewAvailable, ReservedForOthers}
+use Rattle.model.specs.Types.{Open, Nothing, Memory, TooFewAvailable, ReservedForOthers, Ok, Err}
 use Rattle.model_types.specs.Memory.{slot_at}
 use Rattle.model.specs.Rules.Reserves.{others_reserved}
 use Rattle.model.specs.Rules.Valid.{valid}
@@ -16,7 +16,7 @@ OfValid Holds = (memory : Memory) → valid memory ≡ true → Holds memory
 
 -- status answers the counts
 abbrev pub StatusAnswersCounts : Type 0
-StatusAnswersCounts = OfValid (λ memory. status_answer memory ≡ StatusAnswer.Counted (counts memory))
+StatusAnswersCounts = OfValid (λ memory. status_answer memory ≡ Ok (counts memory))
 
 -- the four counts add up to the block count
 abbrev pub FourAddUp : Type 0
@@ -46,15 +46,15 @@ pub record Eligible (memory : Memory) (s count : ℕ) (list : List ℕ) : Type 0
 -- (document 02, job 7); there one that is more than available always is refused by 17
 pub record CanBeHad (memory : Memory) : Type 0 where
   pub never : (s count : ℕ) (list : List ℕ) → count ≤ (counts memory).available
-      → allocate_answer memory s count list ≡ GrantAnswer.Refused TooFewAvailable → ⊥
+      → allocate_answer memory s count list ≡ Err TooFewAvailable → ⊥
   pub granted : (s count : ℕ) (list : List ℕ) → Eligible memory s count list
       → count + others_reserved memory.reserves s ≤ (counts memory).available
-      → allocate_answer memory s count list ≡ GrantAnswer.First (get_or (first_met memory count) 0 0)
+      → allocate_answer memory s count list ≡ Ok (get_or (first_met memory count) 0 0)
   pub reserved : (s count : ℕ) (list : List ℕ) → Eligible memory s count list → count ≤ (counts memory).available
       → (counts memory).available < count + others_reserved memory.reserves s
-      → allocate_answer memory s count list ≡ GrantAnswer.Refused ReservedForOthers
+      → allocate_answer memory s count list ≡ Err ReservedForOthers
   pub always : (s count : ℕ) (list : List ℕ) → Eligible memory s count list → (counts memory).available < count
-      → allocate_answer memory s count list ≡ GrantAnswer.Refused TooFewAvailable
+      → allocate_answer memory s count list ≡ Err TooFewAvailable
 
 abbrev pub AvailableCanBeHad : Type 0
 AvailableCanBeHad = OfValid CanBeHad

@@ -3,7 +3,7 @@
 -- in the order met. The memory gains the block to be searched first, 0 after opening or once block m less 1 was the last granted".
 use Rattle.std.specs.Prelude.{ℕ, ◌+◌, ◌-◌, ◌≤◌, ◌<◌, ◌≡◌, Bool, true, false, cond, List, ◌++◌, length, get_or, take, drop, ltb}
 use Rattle.bitmap.specs.Blocks.{is_available, member}
-use Rattle.model.specs.Types.{Pending, Memory, GrantAnswer}
+use Rattle.model.specs.Types.{Pending, Memory, Ok}
 use Rattle.model.specs.Rules.Available.{available}
 use Rattle.model.specs.Rules.Calls.Allocate.{first_met, allocate_answer, allocate_memory, allocate_list}
 use Rattle.model.specs.Rules.Calls.AllocateExtent.{allocate_extent_answer, allocate_extent_memory}
@@ -13,7 +13,7 @@ use Rattle.model.specs.Rules.Work.{Work, open_work, crash_work, store_work, begi
 -- it holds wherever an allocate is granted, b being its value
 abbrev pub OfGrant : ((memory : Memory) (s count : ℕ) (list : List ℕ) (b : ℕ) → Type 0) → Type 0
 OfGrant Holds =
-    (memory : Memory) (s count : ℕ) (list : List ℕ) (b : ℕ) → allocate_answer memory s count list ≡ GrantAnswer.First b → Holds memory s count list b
+    (memory : Memory) (s count : ℕ) (list : List ℕ) (b : ℕ) → allocate_answer memory s count list ≡ Ok b → Holds memory s count list b
 
 -- ---- what is listed
 
@@ -78,7 +78,7 @@ CursorBehindLast =
 abbrev pub CursorBehindExtent : Type 0
 CursorBehindExtent =
     (memory : Memory) (s count near : ℕ) (list : List ℕ) (b : ℕ)
-    → allocate_extent_answer memory s count near list ≡ GrantAnswer.First b
+    → allocate_extent_answer memory s count near list ≡ Ok b
     → Behind memory.blocks (b + count - 1) (allocate_extent_memory memory s count near list).cursor
 
 -- so allocates carry on: what two list, one after the other, one of both counts together would list
@@ -87,7 +87,7 @@ CarriesOn =
     OfGrant
     (λ memory s count list b.
     (t more : ℕ) (other : List ℕ) (c : ℕ)
-    → allocate_answer (allocate_memory memory s count list) t more other ≡ GrantAnswer.First c
+    → allocate_answer (allocate_memory memory s count list) t more other ≡ Ok c
     → first_met memory (count + more)
     ≡ take count (allocate_list memory s count list) ++ take more (allocate_list (allocate_memory memory s count list) t more other))
 

@@ -2,7 +2,7 @@
 -- station may always allocate up to its claim, 1 to 64 a call into a list as long; store work in hand alone delays it."
 use Rattle.std.specs.Prelude.{ℕ, ◌+◌, ◌-◌, ◌≤◌, ◌<◌, min, ◌≡◌, Bool, true, false, ◌&&◌, List, length, get_or, set, eqb}
 use Rattle.bitmap.specs.Sizes.{slot_count, max_count}
-use Rattle.model.specs.Types.{Idle, Open, Pending, Nothing, Memory, Answer, GrantAnswer, StoresAnswer, WorkPending, SlotBusy, OverReserved, ReservedForOthers}
+use Rattle.model.specs.Types.{Idle, Open, Pending, Nothing, Memory, WorkPending, SlotBusy, OverReserved, ReservedForOthers, Ok, Err}
 use Rattle.model_types.specs.Memory.{slot_at, reserve_at, reserve_of, no_reserves}
 use Rattle.model.specs.Rules.Pending.{is_commit_of}
 use Rattle.model.specs.Rules.Reserves.{total_reserved, others_reserved}
@@ -31,17 +31,17 @@ pub record MayAsk (memory : Memory) (s count : ℕ) (list : List ℕ) : Type 0 w
 
 -- is granted; "store work in hand alone delays it"
 pub record Allocates (memory : Memory) (s count : ℕ) (list : List ℕ) : Type 0 where
-  pub granted : memory.pending ≡ Nothing → allocate_answer memory s count list ≡ GrantAnswer.First (get_or (first_met memory count) 0 0)
-  pub delayed : (memory.pending ≡ Nothing → ⊥) → allocate_answer memory s count list ≡ GrantAnswer.Refused WorkPending
+  pub granted : memory.pending ≡ Nothing → allocate_answer memory s count list ≡ Ok (get_or (first_met memory count) 0 0)
+  pub delayed : (memory.pending ≡ Nothing → ⊥) → allocate_answer memory s count list ≡ Err WorkPending
 
 abbrev pub MayAlwaysAllocate : Type 0
 MayAlwaysAllocate = OfValid (λ memory. (s count : ℕ) (list : List ℕ) → MayAsk memory s count list → Allocates memory s count list)
 
 -- no call that tests 24 is refused by it
 pub record NeverForOthers (memory : Memory) (s count : ℕ) : Type 0 where
-  pub allocate : (list : List ℕ) → allocate_answer memory s count list ≡ GrantAnswer.Refused ReservedForOthers → ⊥
-  pub extent : (near : ℕ) (list : List ℕ) → allocate_extent_answer memory s count near list ≡ GrantAnswer.Refused ReservedForOthers → ⊥
-  pub cost : commit_cost_answer memory s count ≡ StoresAnswer.Refused ReservedForOthers → ⊥
+  pub allocate : (list : List ℕ) → allocate_answer memory s count list ≡ Err ReservedForOthers → ⊥
+  pub extent : (near : ℕ) (list : List ℕ) → allocate_extent_answer memory s count near list ≡ Err ReservedForOthers → ⊥
+  pub cost : commit_cost_answer memory s count ≡ Err ReservedForOthers → ⊥
 
 -- so it is up to the slot's own reservation
 abbrev pub OwnNotForOthers : Type 0
@@ -53,10 +53,10 @@ NoneForOthers = (memory : Memory) → ((t : ℕ) → (reserve_at memory t).reser
 
 -- 24 comes "last, for runs and Job 2's foretelling too": where it is answered, neither 17 nor 22 holds
 pub record LastOfAll (memory : Memory) (s count : ℕ) : Type 0 where
-  pub allocate : (list : List ℕ) → allocate_answer memory s count list ≡ GrantAnswer.Refused ReservedForOthers → count ≤ (counts memory).available
-  pub extent : (near : ℕ) (list : List ℕ) → allocate_extent_answer memory s count near list ≡ GrantAnswer.Refused ReservedForOthers
+  pub allocate : (list : List ℕ) → allocate_answer memory s count list ≡ Err ReservedForOthers → count ≤ (counts memory).available
+  pub extent : (near : ℕ) (list : List ℕ) → allocate_extent_answer memory s count near list ≡ Err ReservedForOthers
       → (b : ℕ) × IsExtent memory count b
-  pub cost : commit_cost_answer memory s count ≡ StoresAnswer.Refused ReservedForOthers → count ≤ (counts memory).available
+  pub cost : commit_cost_answer memory s count ≡ Err ReservedForOthers → count ≤ (counts memory).available
 
 abbrev pub ReservedLast : Type 0
 ReservedLast = (memory : Memory) (s count : ℕ) → LastOfAll memory s count
@@ -80,11 +80,11 @@ IdleDrawsNone = OfValid (λ memory. (s : ℕ) → s < slot_count → (slot_at me
 -- "While a seat is idle it may be given a claim of r blocks": 11 if it isn't idle, and "23 if the claims would then exceed the
 -- grantable blocks, after 11"; what the slot had before isn't counted
 pub record ReservesByFit (memory : Memory) (s reservation : ℕ) : Type 0 where
-  pub busy : ((slot_at memory s).state ≡ Idle → ⊥) → reserve_answer memory s reservation ≡ Answer.Refused SlotBusy
+  pub busy : ((slot_at memory s).state ≡ Idle → ⊥) → reserve_answer memory s reservation ≡ Err SlotBusy
   pub fits : (slot_at memory s).state ≡ Idle → reservation + others_reserved memory.reserves s ≤ (counts memory).available
-      → reserve_answer memory s reservation ≡ Answer.Done
+      → reserve_answer memory s reservation ≡ Ok tt
   pub exceeds : (slot_at memory s).state ≡ Idle → (counts memory).available < reservation + others_reserved memory.reserves s
-      → reserve_answer memory s reservation ≡ Answer.Refused OverReserved
+      → reserve_answer memory s reservation ≡ Err OverReserved
 
 abbrev pub ReserveAnswers : Type 0
 ReserveAnswers =
@@ -93,7 +93,7 @@ ReserveAnswers =
 -- the slot has it then
 abbrev pub ReserveSets : Type 0
 ReserveSets =
-    (memory : Memory) (s reservation : ℕ) → s < length memory.reserves → reserve_answer memory s reservation ≡ Answer.Done
+    (memory : Memory) (s reservation : ℕ) → s < length memory.reserves → reserve_answer memory s reservation ≡ Ok tt
     → (reserve_at (reserve_memory memory s reservation) s).reservation ≡ reservation
 
 -- ---- what changes a reservation
@@ -107,8 +107,8 @@ Draws memory s count after =
 
 -- whichever call grants
 pub record GrantsDraw (memory : Memory) (s count : ℕ) (list : List ℕ) : Type 0 where
-  pub allocate : (b : ℕ) → allocate_answer memory s count list ≡ GrantAnswer.First b → Draws memory s count (allocate_memory memory s count list)
-  pub extent : (near b : ℕ) → allocate_extent_answer memory s count near list ≡ GrantAnswer.First b
+  pub allocate : (b : ℕ) → allocate_answer memory s count list ≡ Ok b → Draws memory s count (allocate_memory memory s count list)
+  pub extent : (near b : ℕ) → allocate_extent_answer memory s count near list ≡ Ok b
       → Draws memory s count (allocate_extent_memory memory s count near list)
 
 abbrev pub GrantDraws : Type 0

@@ -1,9 +1,9 @@
 -- The bench program: the step from a line to the next memory, disk and answer, and all of its output.
-use Rattle.std.specs.Prelude.{ℕ, suc, cond, List, [], ◌∷◌, ◌++◌, length, take, replicate, eqb}
+use Rattle.std.specs.Prelude.{ℕ, suc, cond, List, [], ◌∷◌, ◌++◌, length, take, replicate, eqb, Option, Some, None}
 use Rattle.bitmap.specs.Sizes.{max_count}
 use Rattle.model.specs.Types.{Memory, LineMalformed}
 use Rattle.model_types.specs.declared.line.Op.{Op}
-use Rattle.model_types.specs.declared.line.Parsed.{Parsed}
+use Rattle.model_types.specs.declared.line.Line.{Line}
 use Rattle.model.specs.Rules.Sizes.{disk_words}
 use Rattle.model_types.specs.Errors.{code}
 use Rattle.model_types.specs.Memory.{zero_memory}
@@ -56,9 +56,9 @@ bench_call Op.Status s n memory disk = printed (outcome status_call memory disk)
 bench_call Op.Crash s n memory disk = printed (outcome crash_call memory disk)
 
 -- a line not in form gets 21, and alters nothing
-unfoldable pub bench_step : Parsed → Bench → Bench
-bench_step Parsed.Malformed b = bench_of b.memory b.disk (code LineMalformed) 0
-bench_step (Parsed.Call line) b = bench_call line.op line.slot line.n b.memory b.disk
+unfoldable pub bench_step : Option Line → Bench → Bench
+bench_step None b = bench_of b.memory b.disk (code LineMalformed) 0
+bench_step (Some line) b = bench_call line.op line.slot line.n b.memory b.disk
 
 -- "A line ends at byte 10, or at the input's end if bytes follow the last byte 10."
 unfoldable pub lines_from : List ℕ → List ℕ → List (List ℕ)

@@ -1,8 +1,8 @@
 -- Calls as data, and all that a call gives: what the theorems run over and what the bench program prints are both read off it.
 use Rattle.std.specs.Prelude.{ℕ, List, [], take}
-use Rattle.model.specs.Types.{Memory, GrantAnswer}
+use Rattle.model.specs.Types.{Memory, Answer}
 use Rattle.model_types.specs.Memory.{zero_memory}
-use Rattle.model_types.specs.Answers.{done_number, grant_number, grant_value, stores_number, stores_value, status_number, status_value}
+use Rattle.model_types.specs.Answers.{answer_number, answer_value, status_value}
 use Rattle.model.specs.Rules.Calls.Format.{format_answer, format_disk}
 use Rattle.model.specs.Rules.Calls.Open.{open_answer, open_memory}
 use Rattle.model.specs.Rules.Calls.Start.{start_answer, start_memory}
@@ -48,14 +48,14 @@ abbrev pub outcome_of : Memory → List ℕ → ℕ → ℕ → Outcome
 outcome_of memory disk number value = record { memory = memory; disk = disk; number = number; value = value; listed = [] }
 
 -- of one that grants blocks, and lists their numbers
-abbrev pub grant_outcome : Memory → List ℕ → GrantAnswer → List ℕ → Outcome
+abbrev pub grant_outcome : Memory → List ℕ → Answer ℕ → List ℕ → Outcome
 grant_outcome memory disk answer listed =
-    record { memory = memory; disk = disk; number = grant_number answer; value = grant_value answer; listed = listed }
+    record { memory = memory; disk = disk; number = answer_number answer; value = answer_value answer; listed = listed }
 
 -- each call by its definition; a list lent to a call that grants blocks is read in its first places
 unfoldable pub outcome : Call → Memory → List ℕ → Outcome
-outcome open_call memory disk = outcome_of (open_memory disk) disk (stores_number (open_answer disk)) (stores_value (open_answer disk))
-outcome (start_call s) memory disk = outcome_of (start_memory memory s) disk (done_number (start_answer memory s)) 0
+outcome open_call memory disk = outcome_of (open_memory disk) disk (answer_number (open_answer disk)) (answer_value (open_answer disk))
+outcome (start_call s) memory disk = outcome_of (start_memory memory s) disk (answer_number (start_answer memory s)) 0
 outcome (allocate_call s count list) memory disk =
     grant_outcome (allocate_memory memory s count list) disk (allocate_answer memory s count list) (take count (allocate_list memory s count list))
 outcome (allocate_extent_call s count near list) memory disk =
@@ -64,27 +64,27 @@ outcome (allocate_extent_call s count near list) memory disk =
     disk
     (allocate_extent_answer memory s count near list)
     (take count (allocate_extent_list memory s count near list))
-outcome (deallocate_call s block) memory disk = outcome_of (deallocate_memory memory s block) disk (done_number (deallocate_answer memory s block)) 0
+outcome (deallocate_call s block) memory disk = outcome_of (deallocate_memory memory s block) disk (answer_number (deallocate_answer memory s block)) 0
 outcome (precommit_call s) memory disk =
-    outcome_of (precommit_memory memory s) disk (stores_number (precommit_answer memory s)) (stores_value (precommit_answer memory s))
+    outcome_of (precommit_memory memory s) disk (answer_number (precommit_answer memory s)) (answer_value (precommit_answer memory s))
 outcome (commit_call s) memory disk =
-    outcome_of (commit_memory memory s) disk (stores_number (commit_answer memory s)) (stores_value (commit_answer memory s))
-outcome (drop_call s) memory disk = outcome_of (drop_memory memory s) disk (done_number (drop_answer memory s)) 0
+    outcome_of (commit_memory memory s) disk (answer_number (commit_answer memory s)) (answer_value (commit_answer memory s))
+outcome (drop_call s) memory disk = outcome_of (drop_memory memory s) disk (answer_number (drop_answer memory s)) 0
 outcome (revoke_call s) memory disk =
-    outcome_of (revoke_memory memory s) disk (stores_number (revoke_answer memory s)) (stores_value (revoke_answer memory s))
+    outcome_of (revoke_memory memory s) disk (answer_number (revoke_answer memory s)) (answer_value (revoke_answer memory s))
 outcome store_call memory disk =
     outcome_of
     (store_memory memory disk)
     (store_disk memory disk)
-    (stores_number (store_answer memory disk))
-    (stores_value (store_answer memory disk))
-outcome status_call memory disk = outcome_of memory disk (status_number (status_answer memory)) (status_value (status_answer memory))
+    (answer_number (store_answer memory disk))
+    (answer_value (store_answer memory disk))
+outcome status_call memory disk = outcome_of memory disk (answer_number (status_answer memory)) (status_value (status_answer memory))
 outcome (commit_cost_call s count) memory disk =
-    outcome_of memory disk (stores_number (commit_cost_answer memory s count)) (stores_value (commit_cost_answer memory s count))
+    outcome_of memory disk (answer_number (commit_cost_answer memory s count)) (answer_value (commit_cost_answer memory s count))
 outcome (reserve_call s reservation) memory disk =
-    outcome_of (reserve_memory memory s reservation) disk (done_number (reserve_answer memory s reservation)) 0
+    outcome_of (reserve_memory memory s reservation) disk (answer_number (reserve_answer memory s reservation)) 0
 outcome crash_call memory disk = outcome_of zero_memory disk 0 0
 
 -- a format, which stands in no list: the memory stays
 unfoldable pub format_outcome : ℕ → Memory → List ℕ → Outcome
-format_outcome blocks memory disk = outcome_of memory (format_disk disk blocks) (done_number (format_answer disk blocks)) 0
+format_outcome blocks memory disk = outcome_of memory (format_disk disk blocks) (answer_number (format_answer disk blocks)) 0

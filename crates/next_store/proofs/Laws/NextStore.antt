@@ -1,21 +1,20 @@
 -- The next store of a commit and of a recovery, phase by phase.
-use Prim.Native.Nat.{ℕ, zero, suc, ◌+◌, ◌-◌, ◌*◌, ◌/◌, ◌%◌, ◌<◌}
+use Prim.Native.Nat.{ℕ, zero, suc, ◌+◌, ◌-◌, ◌*◌, ◌/◌, ◌%◌, ◌≤◌, ◌<◌}
 use mathlib.Core.Path.{◌≡◌, refl, sym, ap, ◌∙◌}
 use mathlib.Core.Bool.{cond}
 use mathlib.Core.List.{List, [], ◌∷◌, ◌++◌, map}
 use native.Mathlib.Nat.{add-zero}
 use native.Mathlib.Omega.{arith}
 use lib.ListN.{length, get_or, take, drop, set, length-drop, length-map}
-use lib.Seq.{take-append-le, drop-append-le, drop-append-add, drop_at}
+use lib.Seq.{take-append-le, drop-append-le, drop-append-add, drop_at, drop-cons}
 use lib.Dec.{eqb}
-use Rattle.model.specs.Rules.Sizes.{length_at, bitmap_at, log_at}
+use Rattle.model.specs.Rules.Sizes.{disk_words, length_at, bitmap_at, log_at}
 use Rattle.model.specs.Rules.Stores.{Store, ◌≔◌, writes, log_stores, on_disk, checkpoint_with, journal_with, checkpoint_stores, commit_stores}
 use Rattle.model.specs.Rules.Disk.{log_length, log_entries}
 use Rattle.model.proofs.Laws.Disk.StoreLists.{length-log_stores}
-use Rattle.disk_log.specs.Given.{Logged}
-use Rattle.model.proofs.Laws.Disk.Parts.{entries-count}
-use Rattle.disk_log.proofs.Laws.Log.{entry_at}
-use Rattle.disk_log.proofs.Laws.Given.{logged-few, logged-below}
+use Rattle.std.proofs.lemmas.List.{drop-map}
+use Rattle.disk_log.specs.Given.{entry_of, Logged}
+use Rattle.disk_log.proofs.Laws.Replay.{place-below, entries-length}
 use Rattle.next_store.specs.Next.{IsNext}
 
 -- ---- the first store behind some of a list
@@ -110,22 +109,22 @@ module _ (es : List Store) where
 
 -- ---- the stores of a recovery
 
-module _ (disk : List ℕ) (logged : Logged disk) where
+module _ (disk : List ℕ) (logged : Logged disk) (l : length disk ≡ disk_words) (es : List (List ℕ)) (log : map entry_of es ≡ log_entries disk) (done : ℕ) where
   -- a logged word
-  pub recovery-word : (done : ℕ) {number contents : ℕ} → done < log_length disk
-      → number ≡ get_or disk (log_at + 2 * done) 0
-      → contents ≡ get_or disk (log_at + 2 * done + 1) 0
-      → IsNext (checkpoint_stores (log_entries disk)) done (bitmap_at + number) contents
-  recovery-word done {number} {contents} h n c =
+  pub recovery-word : done < length es
+      → IsNext (checkpoint_stores (log_entries disk)) done (bitmap_at + get_or (get_or es done []) 0 0) (get_or (get_or es done []) 1 0)
+  recovery-word h =
       record {
-        within = omega (arith, logged-below disk done logged h);
-        next = checkpoint-word done (log_entries disk) (number ≔ contents) (rw (entry_at disk done logged.size (logged-few disk logged) h, n, c));
+        within = omega (arith, place-below disk 0 es done logged.few_blocks logged.log log h);
+        next = checkpoint-word done (log_entries disk) (entry_of (get_or es done [])) (rw (← log, drop-map entry_of done es, drop-cons es done [] h));
       }
 
   -- word 1 to 0
-  pub recovery-last : (done : ℕ) → done ≡ log_length disk → IsNext (checkpoint_stores (log_entries disk)) done length_at 0
-  recovery-last done e =
-      record { within = omega arith; next = checkpoint-last done (log_entries disk) (e ∙ sym (entries-count disk logged.size (logged-few disk logged))) }
+  pub recovery-last : done ≤ log_length disk → length es ≤ done → IsNext (checkpoint_stores (log_entries disk)) done length_at 0
+  recovery-last few last =
+      let count : length es ≡ log_length disk = entries-length disk es l logged.few_blocks logged.log log in
+      let all : length es ≡ length (log_entries disk) = sym (length-map es entry_of) ∙ ap length log in
+      record { within = omega arith; next = checkpoint-last done (log_entries disk) (omega arith) }
 
 -- ---- the next store made
 

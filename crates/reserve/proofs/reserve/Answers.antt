@@ -1,76 +1,62 @@
 -- The causes of an idle slot and of the sum decide; accepted, the slot's reserve is the definition's.
-use Prim.Native.Nat.{ℕ}
 use native.Mathlib.Omega.{arith}
-use mathlib.Core.Path.{◌≡◌, ap, ◌∙◌}
-use mathlib.Core.List.{List}
-use lib.ListN.{get_or, set}
-use Rattle.model_types.specs.declared.memory.Reserve.{Reserve}
-use Rattle.model_types.specs.declared.memory.Memory.{Memory}
-use Rattle.model_types.specs.Answers.{done}
-use Rattle.model_types.specs.Memory.{no_reserve, reserve_of, with_reserves}
+use Prim.Native.Nat.{ℕ}
+use mathlib.Core.Path.{sym, ap, ◌∙◌}
+use lib.ListN.{get_or}
+use Rattle.model_types.specs.Memory.{no_reserve, reserve_of, with_reserve}
+use Rattle.model.specs.Rules.CauseLists.{idle_causes, of_slot}
 use Rattle.model.specs.Rules.Reserves.{reserving}
 use Rattle.model.specs.Rules.Calls.Start.{start_error}
 use Rattle.model.specs.Rules.Calls.Reserve.{reserve_error, reserve_answer, reserve_memory}
-use Rattle.model_types.proofs.Laws.Shape.{Shaped, shaped}
-use Rattle.model.proofs.Laws.Calls.Accepted.{start-accepted, reserve-accepted}
-use Rattle.verdicts.specs.Verdicts.{verdict}
-use Rattle.verdicts.proofs.Laws.Frame.{Frame, Judged, at-is, idle-verdict, idle-passed, others-read, none-held, error-is, leaves-new, leaves-old}
-use Rattle.causes.proofs.Laws.Available.{counted_is, can-count}
-use Rattle.reserves.proofs.Laws.Sums.{others-small}
-use Rattle.reserve.proofs.Laws.Reserve.{reserve-verdict}
+use Rattle.model.proofs.Laws.Calls.Accepted.{start-accepted}
+use Rattle.model.proofs.Laws.Calls.Answered.{told-done}
+use Rattle.model.proofs.Laws.Calls.Turns.{refused-before}
+use Rattle.verdicts.proofs.Laws.Ready.{handed-on, pass, leaves-new, leaves-old}
+use Rattle.causes.proofs.Laws.Available.{can-count}
+use Rattle.reserve.proofs.Laws.Reserve.{kept-small, room-decides}
 use Rattle.reserve.proofs.reserve.Goals as goal
-use Rattle.reserve.proofs.reserve.Goals.{then-is_accepted, else-is_accepted}
 
-pub valid-checked-requires-clause-bitmap : goal.valid-checked-requires-clause-bitmap
-valid-checked-requires-clause-bitmap c = (shaped c.args.memory _ c.well_formed.0).sam
-
-pub valid-checked-requires-clause-bitmap_2 : goal.valid-checked-requires-clause-bitmap_2
-valid-checked-requires-clause-bitmap_2 c = (shaped c.args.memory _ c.well_formed.0).«com»
+pub returns-in_err-ready : goal.returns-in_err-ready
+unfolding start_error reserve_error reserve_answer reserve_memory
+returns-in_err-ready c =
+    let refused = refused-before tt _ (of_slot idle_causes c.args.memory.now c.args.slot) _ _ (sym c.in_err-ready.ensures.answers) in
+    record {
+      answers = handed-on c.from_residual.ensures.1 ∙ refused;
+      leaves = leaves-old _ _ _ _ _ refused;
+    }
 
 pub available_now-available-requires : goal.available_now-available-requires
 available_now-available-requires c =
-    let shape : Shaped c.args.memory = shaped c.args.memory _ c.well_formed.0 in
-    let frame : Frame c.args.memory c.args.slot _ _ =
-    record { shape = shape; index = c.slot_index-at.ensures; tested = c.valid-checked.ensures.sound } in
-    record {
-      bitmap = shape.sam;
-      bitmap_2 = shape.«com»;
-      can_count = λ e. can-count _ _ c.valid-checked.ensures (idle-passed _ _ (idle-verdict frame _ c.idle-earlier.ensures) e).is_valid;
-    }
+    let told = pass c.in_ok-ready.ensures.answers in
+    can-count c.args.memory.now told.counted-is (start-accepted _ _ told.none-found).ready.is_valid
 
-pub room_causes-verdict-requires : goal.room_causes-verdict-requires
-room_causes-verdict-requires c =
-    omega (arith, c.others-kept.ensures, others-small c.args.memory.reserves c.slot_index-at.result (shaped c.args.memory _ c.well_formed.0).reserves)
+pub room_causes-requires : goal.room_causes-requires
+room_causes-requires c =
+    let told = pass c.in_ok-ready.ensures.answers in
+    omega (arith, c.others-kept.ensures, kept-small c.args.memory.now c.in_ok-ready.ready.at (start-accepted _ _ told.none-found).ready.is_valid)
+
+pub returns-in_err-room_causes : goal.returns-in_err-room_causes
+unfolding reserve_answer reserve_memory
+returns-in_err-room_causes c =
+    let told = pass c.in_ok-ready.ensures.answers in
+    let refused =
+    room-decides _ _ c.args.reservation told c.in_ok-ready.ensures.shape c.available_now-available.ensures c.others-kept.ensures c.in_err-room_causes.ensures in
+    record {
+      answers = handed-on c.from_residual-in_err-room_causes.ensures.1 ∙ refused;
+      leaves = leaves-old _ _ _ _ _ refused;
+    }
 
 pub returns : goal.returns
 unfolding reserve_answer reserve_memory reserving
 returns c =
-    let memory = c.args.memory in
-    let slot = c.args.slot in
+    let memory = c.args.memory.now in
     let reservation = c.args.reservation in
-    let shape : Shaped memory = shaped memory _ c.well_formed.0 in
-    let frame : Frame memory slot _ _ = record { shape = shape; index = c.slot_index-at.ensures; tested = c.valid-checked.ensures.sound } in
-    let idle : c.idle-earlier.result ≡ verdict (start_error memory slot) = idle-verdict frame _ c.idle-earlier.ensures in
-    let verdict : Judged (reserve_error memory slot reservation) _ _ =
+    let told = pass c.in_ok-ready.ensures.answers in
+    let accepted =
+    room-decides _ _ reservation told c.in_ok-ready.ensures.shape c.available_now-available.ensures c.others-kept.ensures c.in_ok-room_causes.ensures in
     record {
-      is =
-          reserve-verdict memory slot reservation shape _ _ c.room_causes-verdict.ensures idle
-          (counted_is memory _ c.available_now-available.ensures idle)
-          (λ passed. others-read frame c.others-kept.ensures (start-accepted _ _ passed).ready.below);
-      test = c.is_accepted.ensures;
-    } in
-    let new = reserving memory slot reservation in
-    let put : List Reserve → Memory = λ reserves. with_reserves memory reserves in
-    record {
-      answers = c.answer-answer.ensures ∙ ap done (error-is verdict);
-      leaves = elim c.if-is_accepted.branch [
-        | then-is_accepted w ↦
-            let index = at-is frame (reserve-accepted _ _ _ (none-held verdict w.if-is_accepted.true)).ready.below in
-            ap put
-            (w.reserves-is
-            ∙ ap (set memory.reserves _) w.new.ensures
-            ∙ ap (λ (i : ℕ). set memory.reserves i (reserve_of reservation (get_or memory.reserves i no_reserve).drawn)) index)
-            ∙ leaves-new verdict new memory w.if-is_accepted.true
-        | else-is_accepted w ↦ ap put w.reserves-is ∙ leaves-old verdict new memory w.if-is_accepted.false
-      ];
+      answers = accepted;
+      leaves =
+          ap (λ (s : ℕ). with_reserve memory s (reserve_of reservation (get_or memory.reserves s no_reserve).drawn)) told.at-is
+          ∙ leaves-new _ _ (told-done _ (sym accepted));
     }

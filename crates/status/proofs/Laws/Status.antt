@@ -2,11 +2,13 @@
 use Prim.Native.Nat.{ℕ, ◌+◌, ◌-◌, ◌≤◌, ◌<◌}
 use native.Mathlib.Numerals.{add-one}
 use native.Mathlib.Omega.{arith}
-use mathlib.Core.Path.{◌≡◌, refl, sym, ap, ◌∙◌}
+use mathlib.Core.Path.{◌≡◌, ap, ◌∙◌}
 use mathlib.Core.Bool.{Bool, true, false, not, cond, and-false}
+use mathlib.Core.Option.{none}
 use mathlib.Core.List.{List}
 use lib.ListN.{length, get_or, drop, drop_of_length-le}
 use lib.Seq.{drop-cons}
+use borrow.Author.Tests.{not-false}
 use Rattle.bitmap.specs.Bits.{bit}
 use Rattle.bitmap.specs.Sizes.{max_blocks}
 use Rattle.bitmap.specs.Blocks.{allocated_blocks, is_allocating, allocating_blocks, is_freeing, freeing_blocks}
@@ -14,17 +16,16 @@ use Rattle.bitmap.proofs.Laws.Bits.{no_bits-bit}
 use Rattle.bitmap.proofs.Laws.Count.{count_past}
 use Rattle.counting.specs.declared.Tally.{Tally}
 use Rattle.counting.specs.Count.{IsTally}
+use Rattle.model_types.specs.declared.answer.Counts.{Counts}
 use Rattle.model_types.specs.declared.memory.Slot.{Slot}
 use Rattle.model_types.specs.declared.memory.Memory.{Memory}
-use Rattle.model.specs.Rules.First.{first, first_or}
-use Rattle.model_types.specs.Answers.{counted}
 use Rattle.model_types.specs.Memory.{is_active}
 use Rattle.model.specs.Rules.Valid.{valid}
 use Rattle.model.specs.Rules.Causes.{memory_invalid}
-use Rattle.model.specs.Rules.Calls.Status.{status_error, allocated, active_slots, counts, status_answer}
+use Rattle.model.specs.Rules.Calls.Status.{status_error, allocated, active_slots, counts}
+use Rattle.model.proofs.Laws.Calls.First.{first-none}
 use Rattle.model.proofs.Laws.Memory.Valid.{ValidParts, valid-parts}
-use Rattle.model.proofs.Laws.Promises.FourCounts.{status-answers-counts, four-add-up, allocated-is-freeing-and-held}
-use Rattle.status.specs.Status.{Within, status_of}
+use Rattle.model.proofs.Laws.Promises.FourCounts.{four-add-up, allocated-is-freeing-and-held}
 
 module _ (slots : List Slot) (s : ℕ) (d : Slot) (count : ℕ) where
   -- the active slots from s on: the one there, and those behind it
@@ -47,6 +48,16 @@ unfolding active_slots
 all-counted slots s count l so = omega (arith, so, ap active_slots (drop_of_length-le slots l))
 
 -- ---- the answer
+
+-- cause 1 is its only one
+pub is_valid : (memory : Memory) → status_error memory ≡ none → valid memory ≡ true
+unfolding status_error memory_invalid
+is_valid memory e = not-false (valid memory) (first-none _ e).0
+
+-- the counts fit the volume
+pub record Within (blocks : ℕ) (tally : Tally) : Type 0 where
+  pub volume : tally.allocated + tally.allocating ≤ blocks
+  pub freed : tally.freeing ≤ tally.allocated
 
 module _ (memory : Memory) (tally : Tally) (is : IsTally memory.sam.words memory.com.words tally) where
   -- in a valid memory the blocks of whole bitmaps are those below m, since no bitmap has bits from m on
@@ -75,43 +86,38 @@ module _ (memory : Memory) (tally : Tally) (is : IsTally memory.sam.words memory
         ∙ count_past (is_freeing memory.sam.words memory.com.words) memory.blocks max_blocks parts.few_blocks
         (λ b h. rw (sam-past b h))
 
-  module _ (e : valid memory ≡ true) where
-    -- so the counts fit the volume
-    counts-within : Within memory.blocks tally
+  module _ (sound : valid memory ≡ true) where
+    pub counts-within : Within memory.blocks tally
     counts-within =
-        let parts = valid-parts memory e in
-        let allocated = allocated-is-freeing-and-held memory e in
+        let parts = valid-parts memory sound in
+        let allocated = allocated-is-freeing-and-held memory sound in
         record {
-          few = parts.few_blocks;
-          volume = omega (arith, allocated-is parts, allocating-is parts, four-add-up memory e, allocated);
+          volume = omega (arith, allocated-is parts, allocating-is parts, four-add-up memory sound, allocated);
           freed = omega (arith, allocated-is parts, freeing-is parts, allocated);
         }
 
     -- what is left of the volume is available, and of the allocated blocks held
     available-is : memory.blocks - tally.allocated - tally.allocating ≡ (counts memory).available
     available-is =
-        let parts = valid-parts memory e in
-        omega (arith, allocated-is parts, allocating-is parts, four-add-up memory e, allocated-is-freeing-and-held memory e)
+        let parts = valid-parts memory sound in
+        omega (arith, allocated-is parts, allocating-is parts, four-add-up memory sound, allocated-is-freeing-and-held memory sound)
 
     held-is : tally.allocated - tally.freeing ≡ (counts memory).held
     held-is =
-        let parts = valid-parts memory e in
-        omega (arith, allocated-is parts, freeing-is parts, allocated-is-freeing-and-held memory e)
+        let parts = valid-parts memory sound in
+        omega (arith, allocated-is parts, freeing-is parts, allocated-is-freeing-and-held memory sound)
 
-    counted_is : status_of true memory.blocks tally (active_slots memory.slots) ≡ status_answer memory
+    abbrev pub told : ℕ → Counts
+    told active =
+        record {
+          allocated = tally.allocated;
+          available = memory.blocks - tally.allocated - tally.allocating;
+          allocating = tally.allocating;
+          freeing = tally.freeing;
+          held = tally.allocated - tally.freeing;
+          active = active;
+        }
+
+    pub counts-are : {active : ℕ} → active ≡ active_slots memory.slots → told active ≡ counts memory
     unfolding counts
-    counted_is =
-        let parts = valid-parts memory e in
-        rw (available-is, held-is, allocated-is parts, allocating-is parts, freeing-is parts) (sym (status-answers-counts memory e))
-
-  pub tally-within : {sound : Bool} → sound ≡ valid memory → sound ≡ true → Within memory.blocks tally
-  tally-within v e = counts-within (sym v ∙ e)
-
-  pub status-is : {sound : Bool} {active : ℕ} → sound ≡ valid memory → active ≡ active_slots memory.slots
-      → status_of sound memory.blocks tally active ≡ status_answer memory
-  unfolding status_answer status_error memory_invalid first first_or counted
-  status-is {sound} {active} v a = rw (v, a) (go (valid memory) refl)
-    where
-      go : (t : Bool) → valid memory ≡ t → status_of t memory.blocks tally (active_slots memory.slots) ≡ status_answer memory
-      go false e = rw e
-      go true e = counted_is e
+    counts-are e = let parts = valid-parts memory sound in rw (e, available-is, held-is, allocated-is parts, allocating-is parts, freeing-is parts)

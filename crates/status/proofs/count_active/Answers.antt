@@ -1,28 +1,27 @@
--- There are eight slots; an active one counts, an idle one doesn't.
-use Prim.Native.Nat.{◌<◌}
+-- An active slot counts, an idle one doesn't.
 use native.Mathlib.Omega.{arith}
 use mathlib.Core.Path.{sym, ◌∙◌}
-use lib.ListN.{length}
-use Rattle.model_types.proofs.Laws.Shape.{slots-shaped}
 use Rattle.status.proofs.Laws.Status.{one_more, same_count, all-counted}
 use Rattle.status.proofs.count_active.Goals as goal
 use Rattle.status.proofs.count_active.Goals.{then-is_active, else-is_active}
 
-pub loop-s-preserved : goal.loop-s-preserved
-loop-s-preserved c =
-    let l = c.loop-s in
-    let eight = (slots-shaped c.args.slots _ c.well_formed.0).eight in
-    let there : l.s < length c.args.slots = omega (arith, eight, c.loop-s-test.true) in
+pub loop-slot-preserved : goal.loop-slot-preserved
+loop-slot-preserved c =
+    let l = c.loop-slot in
+    let slots = c.args.slots.now in
     let flag = sym c.is_active.ensures in
-    record {
-      few = omega arith;
-      all = elim c.if-is_active.branch [
-        | then-is_active w ↦ rw w.count-is (one_more c.args.slots l.s _ l.count there l.invariant.all (flag ∙ w.if-is_active.true))
-        | else-is_active w ↦ rw w.count-is (same_count c.args.slots l.s _ l.count there l.invariant.all (flag ∙ w.if-is_active.false))
-      ];
-    }
+    elim c.if-is_active.branch [
+      | then-is_active w ↦
+          record {
+            few = omega (arith, l.invariant.few, w.count-is);
+            all = rw w.count-is (one_more slots l.slot-index _ l.count (omega arith) l.invariant.all (flag ∙ w.if-is_active.true));
+          }
+      | else-is_active w ↦
+          record {
+            few = omega (arith, l.invariant.few, w.count-is);
+            all = rw w.count-is (same_count slots l.slot-index _ l.count (omega arith) l.invariant.all (flag ∙ w.if-is_active.false));
+          }
+    ]
 
 pub returns : goal.returns
-returns c =
-    let eight = (slots-shaped c.args.slots _ c.well_formed.0).eight in
-    all-counted c.args.slots c.loop-s.s c.loop-s.count (omega (arith, eight, c.loop-s-test.false)) c.loop-s.invariant.all
+returns c = all-counted c.args.slots.now c.loop-slot.slot-index c.loop-slot.count (omega arith) c.loop-slot.invariant.all

@@ -1,69 +1,57 @@
--- Each way out of the check, against `valid`: the bitmaps are refused, or the pending work decides.
-use Prim.Native.Nat.{ℕ}
+-- What the check answers by the four tests.
+use Prim.Native.Nat.{ℕ, ◌≤◌, ◌<◌}
 use mathlib.Core.Path.{◌≡◌, refl, sym, ap, ◌∙◌}
-use mathlib.Core.Bool.{Bool, true, false, cond, ◌&&◌}
-use lib.ListN.{get_or}
-use Rattle.bitmap.specs.Sizes.{slot_in_range, slot_index}
-use Rattle.model_types.specs.declared.memory.Slot.{Slot}
-use Rattle.model_types.specs.declared.memory.Pending.{Pending}
+use mathlib.Core.Bool.{Bool, true, false, ◌&&◌, false≢true}
+use mathlib.Core.List.{[]}
+use lib.ListN.{length}
+use borrow.Author.Tests.{le-leb, lt-leb}
+use Rattle.std.specs.Prelude.{Option, Ok, Err}
+use Rattle.model.specs.Types.{MemoryInvalid}
+use Rattle.model.specs.Rules.First.{first, first_or}
+use Rattle.model.specs.Rules.Causes.{memory_invalid}
+use Rattle.model.specs.Rules.Calls.Status.{status_error}
+use Rattle.model.specs.Rules.Available.{available}
+use Rattle.model.specs.Rules.Reserves.{total_reserved}
+use Rattle.model.specs.Rules.Valid.{reservations_fit, drawn_fit, pending_valid, valid}
+use Rattle.model.proofs.Laws.Disk.Writes.{and_both}
 use Rattle.model_types.specs.declared.memory.Memory.{Memory}
-use Rattle.model_types.specs.Memory.{idle_slot, slot_at, with_pending}
-use Rattle.model_types.specs.Pending.{owner_of}
-use Rattle.model.specs.Rules.Valid.{pending_valid, valid}
-use Rattle.model.proofs.Laws.Disk.Writes.{and_both, and_first, and_second}
-use Rattle.model.proofs.Laws.Memory.Valid.{valid-parts, parts-valid}
-use Rattle.model.proofs.Laws.Touched.Touches.{pending_fits}
-use Rattle.model_types.proofs.Laws.Shape.{Shaped}
-use Rattle.validity.specs.Pending.{commit_valid}
-use Rattle.validity.proofs.Laws.Slots.{bool-ext}
-use Rattle.validity.proofs.Laws.Pending.{commit-valid, commit-past}
+use Rattle.model_types.specs.Answers.{answer}
+use Rattle.validity.specs.Checked.{bare}
+use Rattle.validity.proofs.Laws.Reserved.{valid-four}
 
--- a memory is valid if it is with nothing pending, and its pending work fits
-pub valid-pending : (memory : Memory) → valid memory ≡ (valid (with_pending memory Pending.Nothing) && pending_valid memory memory.pending)
-unfolding pending_valid
-valid-pending memory =
-    bool-ext (valid memory) (valid quiet && pending_valid memory memory.pending)
-    (λ h.
-    let parts = valid-parts memory h in
-    and_both (parts-valid quiet (pending_fits memory Pending.Nothing parts refl)) parts.pending_fits)
-    (λ h.
-    let parts = valid-parts quiet (and_first (valid quiet) _ h) in
-    parts-valid memory (pending_fits quiet memory.pending parts (and_second (valid quiet) _ h)))
-  where
-    quiet : Memory
-    quiet = with_pending memory Pending.Nothing
+module _ (memory : Memory) (given : Option ℕ) where
+  -- by whether the memory is valid
+  by_valid : (t : Bool) → valid memory ≡ t → answer (first_or (memory_invalid t) MemoryInvalid (first [])) given ≡ answer (status_error memory) given
+  unfolding status_error first
+  by_valid t e = ap (λ (v : Bool). answer (first_or (memory_invalid v) MemoryInvalid (first [])) given) (sym e)
 
-pub maps-wrong : (memory : Memory) → valid (with_pending memory Pending.Nothing) ≡ false → false ≡ valid memory
-maps-wrong memory e = sym (valid-pending memory ∙ ap (λ (t : Bool). t && pending_valid memory memory.pending) e)
+  wrong : valid memory ≡ false → Err MemoryInvalid ≡ answer (status_error memory) given
+  unfolding first first_or memory_invalid answer
+  wrong e = by_valid false e
 
--- ---- the bitmaps are checked
-
-module _ (memory : Memory) (maps : valid (with_pending memory Pending.Nothing) ≡ true) where
-  -- the pending work decides
-  checked-rest : (pending : Pending) (r : Bool) → memory.pending ≡ pending → r ≡ pending_valid memory pending → r ≡ valid memory
-  checked-rest pending r p e =
-      e ∙ sym (valid-pending memory ∙ ap (λ (t : Bool). t && pending_valid memory memory.pending) maps ∙ ap (pending_valid memory) p)
-
-  pub checked-nothing : memory.pending ≡ Pending.Nothing → true ≡ valid memory
-  unfolding pending_valid
-  checked-nothing p = checked-rest Pending.Nothing true p refl
-
-  pub checked-commit : (s done due : ℕ) (owner : Slot) (r : Bool) → Shaped memory → memory.pending ≡ Pending.Commit s done due
-      → owner ≡ get_or memory.slots (owner_of memory.pending) idle_slot
-      → r ≡ (slot_in_range s && commit_valid owner.state memory.sam.words owner.tam.words done due)
-      → r ≡ valid memory
-  unfolding owner_of slot_index
-  checked-commit s done due owner r shape p o e = checked-rest (Pending.Commit s done due) r p (e ∙ go (slot_in_range s) refl)
+  -- one of three tests is false
+  pub refused : (valid (bare memory) && drawn_fit memory && pending_valid memory memory.pending) ≡ false → Err MemoryInvalid ≡ answer (status_error memory) given
+  refused e = wrong (valid-four memory ∙ go (valid (bare memory)) (reservations_fit memory) (drawn_fit memory) (pending_valid memory memory.pending) e)
     where
-      -- past the last slot no commit fits; else the owner is the slot
-      go : (t : Bool) → slot_in_range s ≡ t
-          → (t && commit_valid owner.state memory.sam.words owner.tam.words done due) ≡ pending_valid memory (Pending.Commit s done due)
-      go false out = commit-past memory s done due shape.slots out
-      go true inside =
-          ap (λ (slot : Slot). commit_valid slot.state memory.sam.words slot.tam.words done due)
-          (o ∙ ap (slot_at memory) (ap owner_of p ∙ ap (λ (t : Bool). cond t s 0) inside))
-          ∙ commit-valid memory s done due (valid-parts (with_pending memory Pending.Nothing) maps) (shape.tam s)
+      go : (a b c d : Bool) → (a && c && d) ≡ false → (a && b && c && d) ≡ false
+      go false b c d e = refl
+      go true false c d e = refl
+      go true true c d e = e
 
-  pub checked-recovery : (done due : ℕ) (r : Bool) → memory.pending ≡ Pending.Recovery done due
-      → r ≡ pending_valid (with_pending memory (Pending.Recovery done due)) (Pending.Recovery done due) → r ≡ valid memory
-  checked-recovery done due r p e = checked-rest (Pending.Recovery done due) r p (e ∙ ap (λ (q : Pending). pending_valid (with_pending memory q) (Pending.Recovery done due)) (sym p))
+  -- more is reserved than is available
+  pub over_reserved : length (available memory) < total_reserved memory.reserves → Err MemoryInvalid ≡ answer (status_error memory) given
+  unfolding reservations_fit
+  over_reserved h = wrong (valid-four memory ∙ go (valid (bare memory)) (reservations_fit memory) (drawn_fit memory) (pending_valid memory memory.pending) (lt-leb _ _ h))
+    where
+      go : (a b c d : Bool) → b ≡ false → (a && b && c && d) ≡ false
+      go false false c d e = refl
+      go true false c d e = refl
+      go a true c d e = absurd (false≢true (sym e))
+
+  -- all four are true
+  pub accepted : valid (bare memory) ≡ true → drawn_fit memory ≡ true → pending_valid memory memory.pending ≡ true
+      → total_reserved memory.reserves ≤ length (available memory)
+      → Ok given ≡ answer (status_error memory) given
+  unfolding first first_or memory_invalid answer reservations_fit
+  accepted maps drawn pending h =
+      by_valid true (valid-four memory ∙ and_both (and_both (and_both maps (le-leb _ _ h)) drawn) pending)

@@ -23,19 +23,13 @@ use Rattle.model.proofs.Laws.Disk.Parts.{in_range-low, in_range-high}
 use Rattle.model.proofs.Laws.Memory.Valid.{ValidParts, head_valid, valid-parts, parts-valid, touches_block, touches-one, no_bits-empty}
 use Rattle.model.proofs.Laws.Memory.Fit.{none-fits}
 use Rattle.model.proofs.Laws.Touched.Touches.{one, differs, active-valid}
-use Rattle.model_types.proofs.Laws.Shape.{Shaped}
+use Rattle.model_types.specs.Shape.{HasShape}
+use Rattle.validity.specs.Checked.{volume_valid}
 use Rattle.validity.proofs.Laws.Slots.{bool-ext, not-true-false, all_slots-all}
 use Rattle.validity.proofs.Laws.Passed.{Passed, SlotTaken}
 use Rattle.validity.proofs.Laws.Right.{no-differs, passed-all, slot-right, left-none}
 
 -- ---- refused
-
--- the first parts of `valid`
-abbrev pub volume_valid : Memory → Bool
-volume_valid memory =
-    head_valid memory
-    && no_bits_from memory.blocks memory.sam.words
-    && no_bits_from memory.blocks memory.com.words
 
 pub volume-wrong : (memory : Memory) → volume_valid memory ≡ false → false ≡ valid memory
 unfolding valid
@@ -51,7 +45,7 @@ volume-wrong memory e =
     && pending_valid memory memory.pending)
     e)
 
-module _ (memory : Memory) (shape : Shaped memory) where
+module _ (memory : Memory) (shape : HasShape memory) where
   pub slot-wrong : (s : ℕ) (left left' : List ℕ) → Passed memory s left
       → SlotTaken (slot_at memory s) left memory.sam.words false left' → false ≡ valid memory
   slot-wrong s left left' passed taken =

@@ -20,7 +20,7 @@ use Rattle.model.specs.Rules.Valid.{same_words, touches}
 use Rattle.model.proofs.Laws.Disk.Writes.{same-words}
 use Rattle.model.proofs.Laws.Memory.Valid.{touches_block}
 use Rattle.model.proofs.Laws.Touched.Touches.{one, differs}
-use Rattle.model_types.proofs.Laws.Shape.{Shaped}
+use Rattle.model_types.specs.Shape.{HasShape}
 use Rattle.touches.specs.Left.{differ, TouchedTaken}
 use Rattle.touches.proofs.Laws.Differ.{differ-is}
 use Rattle.validity.proofs.Laws.LeftBits.{bit-differ, left-bits}
@@ -40,7 +40,7 @@ pub record Passed (memory : Memory) (s : ℕ) (left : List ℕ) : Type 0 where
   pub counted : (b : ℕ) → touches memory b (take s memory.slots) + one (bit left b) ≡ one (differs memory b)
   pub empty : (k : ℕ) → k < s → is_active (slot_at memory k).state ≡ false → (slot_at memory k).tam.words ≡ replicate bitmap_words 0
 
-pub passed_none : (memory : Memory) → Shaped memory → Passed memory 0 (differ memory.sam.words memory.com.words)
+pub passed_none : (memory : Memory) → HasShape memory → Passed memory 0 (differ memory.sam.words memory.com.words)
 unfolding touches
 passed_none memory shape =
     record {
@@ -82,7 +82,7 @@ taken-one true false h = refl
 taken-one false true h = absurd (false≢true (h refl))
 taken-one false false h = refl
 
-module _ (memory : Memory) (s : ℕ) (left left' : List ℕ) (shape : Shaped memory) (below : s < slot_count) (passed : Passed memory s left)
+module _ (memory : Memory) (s : ℕ) (left left' : List ℕ) (shape : HasShape memory) (below : s < slot_count) (passed : Passed memory s left)
     (taken : SlotTaken (slot_at memory s) left memory.sam.words true left') where
   abbrev slot : Slot
   slot = slot_at memory s

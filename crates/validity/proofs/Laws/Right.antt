@@ -18,7 +18,8 @@ use Rattle.model.specs.Rules.Valid.{same_words, slot_valid, touches}
 use Rattle.model.proofs.Laws.Disk.Writes.{and_second, words_same}
 use Rattle.model.proofs.Laws.Memory.Valid.{ValidParts, all_slots-at, touches_at, touches_block, idle-valid, slot-below}
 use Rattle.model.proofs.Laws.Touched.Touches.{one, differs}
-use Rattle.model_types.proofs.Laws.Shape.{Shaped, empty-is}
+use Rattle.model_types.proofs.Laws.Shape.{empty-is}
+use Rattle.model_types.specs.Shape.{HasShape}
 use Rattle.touches.specs.Left.{differ}
 use Rattle.touches.proofs.Laws.Differ.{differ-is}
 use Rattle.validity.proofs.Laws.LeftBits.{bit-differ, bits_left}
@@ -50,11 +51,11 @@ module _ (memory : Memory) where
       ap₂ xor (no_bits-bit memory.blocks memory.sam.words b sam_none h) (no_bits-bit memory.blocks memory.com.words b com_none h)
 
   -- all slots passed
-  pub passed-all : (left : List ℕ) → Shaped memory → Passed memory slot_count left
+  pub passed-all : (left : List ℕ) → HasShape memory → Passed memory slot_count left
       → (b : ℕ) → touches memory b memory.slots + one (bit left b) ≡ one (differs memory b)
   passed-all left shape passed b = rw (take_all slot_count memory.slots (omega (arith, shape.slots))) at (passed.counted b)
 
-module _ (memory : Memory) (shape : Shaped memory) (parts : ValidParts memory) where
+module _ (memory : Memory) (shape : HasShape memory) (parts : ValidParts memory) where
   -- what the next slot has touched is left
   touched-left : (s : ℕ) (left : List ℕ) → Passed memory s left → is_active (slot_at memory s).state ≡ true
       → (b : ℕ) → bit (differ (slot_at memory s).tam.words memory.sam.words) b ≡ true → bit left b ≡ true

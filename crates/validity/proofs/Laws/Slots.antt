@@ -1,17 +1,21 @@
--- Bools that are one, and a test of every slot. And the shape of a memory that is given by its parts.
-use Prim.Native.Nat.{ℕ, suc, ◌<◌, suc-le-suc, zero-le}
+-- Bools that are one, a test of every slot, and the shape of a bare memory.
+use Prim.Native.Nat.{ℕ, suc, ◌≤◌, ◌<◌, suc-le-suc, zero-le}
 use mathlib.Core.Path.{◌≡◌, refl, sym}
 use mathlib.Core.Bool.{Bool, true, false}
 use mathlib.Core.List.{List, [], ◌∷◌}
 use lib.ListN.{length, get_or}
-use Rattle.bitmap.specs.Bits.{IsBitmap}
+use Rattle.std.specs.Prelude.{All, IsTrue, ◌↔◌}
+use Rattle.std.proofs.Common.{rules}
+use Rattle.std.proofs.lemmas.List.Elements.{All-get_or, All-cons}
 use Rattle.model_types.specs.declared.memory.Slot.{Slot}
-use Rattle.model_types.specs.declared.memory.Reserve.{Reserve}
-use Rattle.model_types.specs.declared.memory.Pending.{Pending}
-use Rattle.model_types.specs.Memory.{bitmap, memory_of, idle_slot}
-use Rattle.model.specs.Rules.Valid.{all_slots}
-use Rattle.model.proofs.Laws.Disk.Writes.{and_both}
-use Rattle.model_types.proofs.Laws.Shape.{Shaped, ShapedSlots, ShapedReserves}
+use Rattle.model_types.specs.declared.memory.Memory.{Memory}
+use Rattle.model_types.specs.Memory.{idle_slot}
+use Rattle.model.specs.Rules.Valid.{all_slots, valid}
+use Rattle.model.proofs.Laws.Disk.Writes.{and_both, and_first, and_second}
+use Rattle.model.proofs.Laws.Memory.Valid.{valid-parts}
+use Rattle.bitmap.specs.Sizes.{max_blocks}
+use Rattle.model_types.specs.Shape.{HasShape}
+use Rattle.validity.specs.Checked.{bare}
 
 -- two Bools are one if each is true where the other is
 pub bool-ext : (a b : Bool) → (a ≡ true → b ≡ true) → (b ≡ true → a ≡ true) → a ≡ b
@@ -31,7 +35,23 @@ unfolding all_slots
 all_slots-all test [] h = refl
 all_slots-all test (slot ∷ slots) h = and_both (h 0 (suc-le-suc zero-le)) (all_slots-all test slots (λ s l. h (suc s) (suc-le-suc l)))
 
-pub parts-shaped : {blocks cursor : ℕ} {sam «com» : List ℕ} {slots : List Slot} {reserves : List Reserve} {pending : Pending}
-    → IsBitmap sam → IsBitmap «com» → ShapedSlots slots → ShapedReserves reserves
-    → Shaped (memory_of blocks cursor (bitmap sam) (bitmap «com») slots reserves pending)
-parts-shaped sam_is com_is shape reserves = record { sam = sam_is; «com» = com_is; slots = shape.eight; tam = shape.tam; reserves = reserves }
+all_slots-each : (test : Slot → Bool) (slots : List Slot) → all_slots test slots ≡ true → All (λ slot. IsTrue (test slot)) slots
+unfolding all_slots
+all_slots-each test [] h = search rules
+all_slots-each test (slot ∷ slots) h =
+    All-cons (λ slot. IsTrue (test slot)) slot slots (and_first (test slot) _ h) (all_slots-each test slots (and_second (test slot) _ h))
+
+-- the library's test of each slot is the same
+pub all_slots-is : (test : Slot → Bool) (slots : List Slot) (r : Bool) → IsTrue r ↔ All (λ slot. IsTrue (test slot)) slots → r ≡ all_slots test slots
+all_slots-is test slots r each =
+    bool-ext r (all_slots test slots)
+    (λ h. all_slots-all test slots (λ s l. All-get_or (λ slot. IsTrue (test slot)) slots s idle_slot l (each.0 h)))
+    (λ h. each.1 (all_slots-each test slots h))
+
+-- what a memory has in its bitmaps and slots, the bare one has
+pub bare-shaped : {memory : Memory} → HasShape memory → HasShape (bare memory)
+bare-shaped shape = record { sam = shape.sam; «com» = shape.com; slots = shape.slots; tam = shape.tam; reserves = refl }
+
+-- its volume has no more blocks than any
+pub few_blocks : (memory : Memory) → valid (bare memory) ≡ true → memory.blocks ≤ max_blocks
+few_blocks memory maps = (valid-parts (bare memory) maps).few_blocks

@@ -1,11 +1,7 @@
 -- The digits are put behind the name.
 use native.Mathlib.Omega.{arith}
 use Rattle.bench_answer.proofs.Laws.Put.{put_then}
-use Rattle.bench_answer.proofs.Laws.Decimal.{decimal-length}
 use Rattle.bench_answer.proofs.put.put_field.Goals as goal
-
-pub put_decimal-requires : goal.put_decimal-requires
-put_decimal-requires c = omega (arith, decimal-length c.args.n)
 
 pub returns : goal.returns
 returns c = put_then (omega arith) c.put_bytes-after_name.ensures c.put_decimal.ensures

@@ -1,19 +1,13 @@
--- The slot's number, then " n=" behind it, then what `number_field` makes of the rest.
-use mathlib.Core.Path.{sym, ap, ◌∙◌}
+-- The slot's number, and what follows " n=" behind it.
+use Rattle.std.proofs.Common.{sym, ap, ◌∙◌, Some}
 use Rattle.model.specs.Rules.Line.{number_field}
-use Rattle.bench_line.proofs.Laws.Prefix.{found, missing}
-use Rattle.bench_line.proofs.Laws.Fields.{no_slot, no-count-field, slot_read}
+use Rattle.bench_line.proofs.Laws.Fields.{slot-missing, slot-found}
 use Rattle.bench_line.proofs.fields.slot_number.Goals as goal
 
-pub returns-in_default : goal.returns-in_default
-returns-in_default c = sym (no_slot _ c.args.line.now c.args.at c.in_default.ensures)
-
-pub returns-then-starts_with : goal.returns-then-starts_with
-returns-then-starts_with c =
-    c.number_field.ensures
-    ∙ ap (number_field _ _) (sym (found c.starts_with.ensures c.if-starts_with.true))
-    ∙ sym (slot_read _ c.in-Read.ensures)
+pub returns-in_err-strip_prefix : goal.returns-in_err-strip_prefix
+returns-in_err-strip_prefix c = c.from_residual-in_err-strip_prefix.ensures ∙ sym (slot-missing _ c.in_ok-slot.ensures c.in_err-strip_prefix.ensures.cases)
 
 pub returns : goal.returns
 returns c =
-    sym (slot_read _ c.in-Read.ensures ∙ ap (number_field _ _) (missing c.starts_with.ensures c.if-starts_with.false) ∙ no-count-field _ _)
+    let found = c.in_ok-strip_prefix.ensures.cases in
+    c.number_field.ensures ∙ ap (λ bytes. number_field c.args.op c.in_ok-slot.slot (Some bytes)) found.1 ∙ sym (slot-found _ c.in_ok-slot.ensures found.0)

@@ -1,10 +1,11 @@
--- The changed words are those counted so far and those from k on.
+-- The changed words are those counted so far and those behind.
 use Prim.Native.Nat.{◌+◌, ◌≤◌}
 use mathlib.Core.Path.{◌≡◌}
-use lib.ListN.{length, drop}
+use lib.ListN.{length}
 use Rattle.model.specs.Rules.Stores.{changes_from}
 use Rattle.bitops.proofs.compare.changed.Given as goal
 
-abbrev pub invariant-loop-k : goal.invariant-loop-k
-invariant-loop-k l =
-    (l.count ≤ l.k) × (l.count + length (changes_from l.k (drop l.k l.old) (drop l.k l.new)) ≡ length (changes_from 0 l.old l.new))
+abbrev pub invariant-loop-a : goal.invariant-loop-a
+invariant-loop-a l =
+    (l.count ≤ length l.yielded)
+    × (l.count + length (changes_from (length l.yielded) l.a-iterator.a.rest.now l.a-iterator.b.rest.now) ≡ length (changes_from 0 l.old l.new))

@@ -1,32 +1,23 @@
--- The words below are whole, one has bits on both sides, and those after are 0.
-use Prim.Native.Nat.{ℕ, ◌+◌, ◌/◌}
-use native.Mathlib.Omega.{arith}
+-- One word has bits on both sides of the volume's end, and those after it are 0.
 use mathlib.Core.Path.{sym, ap, ◌∙◌}
 use mathlib.Core.Bool.{Bool, ◌&&◌}
-use mathlib.Core.List.{List}
-use lib.ListN.{drop}
 use borrow.Author.Tests.{eq-eqb, ne_eqb}
 use Rattle.bitmap.specs.Bits.{no_bits_from}
-use Rattle.bitops.proofs.Laws.Compare.{no_bits-words, no_bits-all-words}
+use Rattle.bitops.proofs.Laws.Compare.{no_bits_words, no_bits_no_words}
 use Rattle.bitops.proofs.compare.no_bits_from.Goals as goal
 
--- whether the words after the one with bits on both sides are 0
-abbrev after : ℕ → List ℕ → Bool
-after blocks words = no_bits_from 0 (drop (blocks / 32 + 1) words)
-
-pub returns-then-place-eq-WORDS : goal.returns-then-place-eq-WORDS
-returns-then-place-eq-WORDS c =
-    sym (no_bits-all-words c.args.blocks c.args.words.now c.requires.bitmap.small (omega (arith, c.requires.bitmap.size)))
+pub returns-in_default : goal.returns-in_default
+returns-in_default c = sym (no_bits_no_words c.args.blocks c.args.words.now c.told-words c.fits-words c.in_default.ensures.cases)
 
 pub returns-then-word-blocks-ne0 : goal.returns-then-word-blocks-ne0
 returns-then-word-blocks-ne0 c =
     sym
-    (no_bits-words _ _ c.requires.bitmap.small (omega arith)
-    ∙ ap (λ (t : Bool). t && after c.args.blocks c.args.words.now) (ne_eqb _ 0 c.if-word-blocks-ne0.true))
+    (no_bits_words c.args.blocks c.args.words.now c.told-words c.fits-words c.in-Some.ensures.cases.0
+    ∙ ap (λ (t : Bool). t && no_bits_from 0 c.in-Some.rest.now) (ne_eqb _ 0 c.if-word-blocks-ne0.true))
 
 pub returns : goal.returns
 returns c =
-    c.zero_from.ensures
+    c.zero.ensures
     ∙ sym
-    (no_bits-words _ _ c.requires.bitmap.small (omega arith)
-    ∙ ap (λ (t : Bool). t && after c.args.blocks c.args.words.now) (eq-eqb _ 0 c.if-word-blocks-ne0.false))
+    (no_bits_words c.args.blocks c.args.words.now c.told-words c.fits-words c.in-Some.ensures.cases.0
+    ∙ ap (λ (t : Bool). t && no_bits_from 0 c.in-Some.rest.now) (eq-eqb _ 0 c.if-word-blocks-ne0.false))

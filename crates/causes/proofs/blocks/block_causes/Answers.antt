@@ -1,36 +1,31 @@
--- Each cause in its turn.
-use mathlib.Core.Path.{◌≡◌}
-use mathlib.Core.Bool.{true, false}
-use Rattle.bitmap.specs.Bits.{bit}
-use Rattle.verdicts.proofs.Laws.Verdicts.{then-accepted}
-use Rattle.causes.proofs.Laws.Blocks.{range-refused, free-refused, freeing-refused, block-accepted}
+-- Three causes, one after the other.
+use mathlib.Core.Path.{sym, ap, ap₂, ◌∙◌}
+use mathlib.Core.Bool.{not, ◌&&◌}
+use borrow.Author.Tests.{le-leb, lt-leb}
+use Rattle.model_types.specs.declared.error.Error.TheVariants.{BlockRange, BlockFree, BlockFreeing}
+use Rattle.model.specs.Rules.Causes.{block_out_of_range, block_free, block_freeing}
+use Rattle.model.proofs.Laws.Calls.Turns.{held, passed, ended}
 use Rattle.causes.proofs.blocks.block_causes.Goals as goal
 
-pub returns-then-blocks-block : goal.returns-then-blocks-block
-returns-then-blocks-block c =
-    let a = c.args in
-    then-accepted a.earlier _ c.is_accepted.ensures c.if-not-is_accepted.false
-    (range-refused a.blocks a.sam.now a.«com».now a.block c.if-blocks-block.true)
+pub returns-then-memory-block : goal.returns-then-memory-block
+unfolding block_out_of_range
+returns-then-memory-block c = held _ BlockRange _ (le-leb _ _ c.if-memory-block.true)
 
 pub returns-then-not-has : goal.returns-then-not-has
+unfolding block_out_of_range block_free
 returns-then-not-has c =
-    let a = c.args in
-    let free : bit a.sam.now a.block ≡ false = cc in
-    then-accepted a.earlier _ c.is_accepted.ensures c.if-not-is_accepted.false
-    (free-refused a.blocks a.sam.now a.«com».now a.block c.if-blocks-block.false free)
+    passed _ BlockRange _ (lt-leb _ _ c.if-memory-block.false) (held _ BlockFree _ (ap not (sym c.has.ensures ∙ c.if-not-has.true)))
 
 pub returns-then-not-has-2 : goal.returns-then-not-has-2
+unfolding block_out_of_range block_free block_freeing
 returns-then-not-has-2 c =
-    let a = c.args in
-    let held : bit a.sam.now a.block ≡ true = cc in
-    let freeing : bit a.«com».now a.block ≡ false = cc in
-    then-accepted a.earlier _ c.is_accepted.ensures c.if-not-is_accepted.false
-    (freeing-refused a.blocks a.sam.now a.«com».now a.block c.if-blocks-block.false held freeing)
+    passed _ BlockRange _ (lt-leb _ _ c.if-memory-block.false)
+    (passed _ BlockFree _ (ap not (sym c.has.ensures ∙ c.if-not-has.false))
+    (held _ BlockFreeing _ (ap₂ ◌&&◌ (sym c.has.ensures ∙ c.if-not-has.false) (ap not (sym c.has-2.ensures ∙ c.if-not-has-2.true)))))
 
 pub returns : goal.returns
+unfolding block_out_of_range block_free block_freeing
 returns c =
-    let a = c.args in
-    let held : bit a.sam.now a.block ≡ true = cc in
-    let stays : bit a.«com».now a.block ≡ true = cc in
-    then-accepted a.earlier _ c.is_accepted.ensures c.if-not-is_accepted.false
-    (block-accepted a.blocks a.sam.now a.«com».now a.block c.if-blocks-block.false held stays)
+    passed _ BlockRange _ (lt-leb _ _ c.if-memory-block.false)
+    (passed _ BlockFree _ (ap not (sym c.has.ensures ∙ c.if-not-has.false))
+    (passed _ BlockFreeing _ (ap₂ ◌&&◌ (sym c.has.ensures ∙ c.if-not-has.false) (ap not (sym c.has-2.ensures ∙ c.if-not-has-2.false))) (ended _)))

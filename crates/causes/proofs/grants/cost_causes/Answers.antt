@@ -1,15 +1,14 @@
--- Two causes, one after the other, and 24 behind them.
-use mathlib.Core.Path.{refl}
-use mathlib.Core.List.{[]}
-use Rattle.model_types.specs.declared.error.Error.TheVariants.{CountRange, TooFewAvailable}
-use Rattle.model.specs.Rules.Causes.{count_too_large, too_few_available}
-use Rattle.verdicts.proofs.Laws.Verdicts.{none-behind, one-behind, list-behind}
+-- One cause, and 17 and 24 behind it.
+use borrow.Author.Tests.{lt-ltb, le-ltb}
+use Rattle.model_types.specs.declared.error.Error.TheVariants.{CountRange}
+use Rattle.model.specs.Rules.Causes.{count_too_large}
+use Rattle.model.proofs.Laws.Calls.Turns.{held, passed}
 use Rattle.causes.proofs.grants.cost_causes.Goals as goal
 
+pub returns-then-count-gt-COUNT : goal.returns-then-count-gt-COUNT
+unfolding count_too_large
+returns-then-count-gt-COUNT c = held _ CountRange _ (lt-ltb _ _ c.if-count-gt-COUNT.true)
+
 pub returns : goal.returns
-unfolding count_too_large too_few_available
-returns c =
-    let a = c.args in
-    let counted = one-behind a.earlier [] (count_too_large a.count) CountRange c.unless-counted.ensures (none-behind a.earlier) refl in
-    let enough = one-behind a.earlier _ (too_few_available a.available a.count) TooFewAvailable c.unless-enough.ensures counted refl in
-    list-behind a.earlier _ _ c.spare_causes.ensures enough
+unfolding count_too_large
+returns c = passed _ CountRange _ (le-ltb _ _ c.if-count-gt-COUNT.false) c.enough_causes.ensures

@@ -1,19 +1,17 @@
--- Three causes, one after the other, and 24 behind them.
-use mathlib.Core.Path.{refl, ap}
-use mathlib.Core.Bool.{not}
-use mathlib.Core.List.{[]}
-use Rattle.model_types.specs.declared.error.Error.TheVariants.{CountRange, ListShort, TooFewAvailable}
-use Rattle.model.specs.Rules.Causes.{count_out_of_range, list_short, too_few_available}
-use Rattle.verdicts.proofs.Laws.Verdicts.{none-behind, one-behind, list-behind}
+-- The causes of the count, and those of what is available behind them.
+use mathlib.Core.Path.{sym, ap, ◌∙◌}
+use Rattle.std.specs.Prelude.{Err}
+use Rattle.std.proofs.lemmas.Result.{err_from_is_err_and}
+use Rattle.model.specs.Rules.CauseLists.{count_causes}
+use Rattle.model.proofs.Laws.Calls.Turns.{refused-before, passed-before}
 use Rattle.causes.proofs.grants.grant_causes.Goals as goal
 
+pub returns-in_err-count_causes : goal.returns-in_err-count_causes
+returns-in_err-count_causes c =
+    let out = err_from_is_err_and c.from_residual.result c.from_residual.ensures.1 in
+    out.1 ∙ ap Err out.2 ∙ refused-before _ _ (count_causes c.args.count c.args.list.now) _ _ (sym c.count_causes.ensures ∙ c.in_err-count_causes.was)
+
 pub returns : goal.returns
-unfolding count_out_of_range list_short too_few_available
 returns c =
-    let a = c.args in
-    let counted =
-    one-behind a.earlier [] (count_out_of_range a.count) CountRange c.unless-counted.ensures (none-behind a.earlier)
-    (ap not c.count_in_range.ensures) in
-    let roomy = one-behind a.earlier _ (list_short a.list.now a.count) ListShort c.unless-roomy.ensures counted refl in
-    let enough = one-behind a.earlier _ (too_few_available a.available a.count) TooFewAvailable c.unless-enough.ensures roomy refl in
-    list-behind a.earlier _ _ c.spare_causes.ensures enough
+    passed-before _ _ (count_causes c.args.count c.args.list.now) _ _ (sym c.count_causes.ensures ∙ c.in_ok-count_causes.was)
+    c.enough_causes.ensures

@@ -7,9 +7,7 @@ use lib.ListN.{drop}
 use Rattle.bitmap.specs.Bits.{no_bits_from}
 use Rattle.model.specs.Rules.Stores.{writes}
 use Rattle.model.specs.Rules.Valid.{same_words}
-use Rattle.model.specs.Rules.Disk.{disk_bitmap, log_entries}
-use Rattle.disk_log.proofs.Laws.Sam.{bitmap-is}
-use Rattle.disk_match.proofs.Laws.Rewritten.{rewritten-is}
+use Rattle.model.specs.Rules.Disk.{log_entries}
 use Rattle.disk_match.proofs.Laws.Recovery.{log-agrees, recovery-tests}
 use Rattle.disk_match.proofs.Laws.InTurn.{stop-first, stop-second, go-last}
 use Rattle.disk_match.proofs.recovery.recovery_matches.Goals as goal
@@ -46,13 +44,6 @@ rewrite-requires-clause-from_bound c =
     let a = c.args in
     let agrees = log-agrees a.disk.now a.sam.now a.blocks (a.due - 1) (sym c.log_agrees.ensures ∙ c.if-not-log_agrees.false) in
     omega (arith, agrees.length_is)
-
-pub same-requires-clause-bitmap : goal.same-requires-clause-bitmap
-same-requires-clause-bitmap c =
-    let disk = c.args.disk.now in
-    let small = λ (i : ℕ). c.type_inv.disk i in
-    rw (c.rewrite.ensures, c.bitmap-words.ensures)
-    (rewritten-is disk (disk_bitmap disk) c.args.done (bitmap-is disk c.requires.disk_len (λ i. omega (arith, small i))) (λ i. omega (arith, small i)))
 
 pub returns : goal.returns
 returns c =

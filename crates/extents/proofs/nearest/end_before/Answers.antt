@@ -7,19 +7,19 @@ use Rattle.extents.proofs.Laws.Nearest.{end_none, end-found}
 use Rattle.extents.proofs.nearest.end_before.Goals as goal
 
 pub overflow_sub-result : goal.overflow_sub-result
-overflow_sub-result c = omega (arith, (end-found c.requires.are_words (c.loop-end.end - 1) c.if-bits-ne0.true).0)
+overflow_sub-result c = omega (arith, (end-found c.args.starts.now (c.loop-end.end - 1) c.if-bits-ne0.true).0)
 
 pub returns-then-bits-ne0 : goal.returns-then-bits-ne0
 returns-then-bits-ne0 c =
     let whole : suc (c.loop-end.end - 1) ≡ c.loop-end.end = omega arith in
-    let found = end-found c.requires.are_words (c.loop-end.end - 1) c.if-bits-ne0.true in
+    let found = end-found c.args.starts.now (c.loop-end.end - 1) c.if-bits-ne0.true in
     sym (c.loop-end.invariant.1 ∙ rw whole at found.1)
 
 pub loop-end-preserved : goal.loop-end-preserved
 loop-end-preserved c =
     let whole : suc (c.loop-end.end - 1) ≡ c.loop-end.end = omega arith in (
       omega (arith, c.loop-end.invariant.0),
-      c.loop-end.invariant.1 ∙ rw whole at (end_none c.requires.are_words (c.loop-end.end - 1) c.if-bits-ne0.false),
+      c.loop-end.invariant.1 ∙ rw whole at (end_none c.args.starts.now (c.loop-end.end - 1) c.if-bits-ne0.false),
     )
 
 pub returns : goal.returns

@@ -9,8 +9,7 @@ narrow-requires c =
     record {
       within = omega (arith, c.words_for-words.ensures);
       short = omega arith;
-      are = so.are;
-      none = λ b h. starts-end _ _ _ _ c.loop-size.invariant.0 so b (omega (arith, c.words_for-words.ensures));
+      none = λ b h. starts-end _ _ _ _ _ c.loop-size.invariant.0 so b (omega (arith, c.words_for-words.ensures));
     }
 
 pub loop-size-preserved : goal.loop-size-preserved
@@ -18,5 +17,5 @@ loop-size-preserved c =
     let a = c.args in (
       omega arith,
       omega arith,
-      longer a.blocks c.loop-size.size _ a.sam.now a.«com».now (omega arith) c.loop-size.invariant.2 c.narrow.ensures,
+      longer a.blocks c.loop-size.size _ a.sam.now a.«com».now _ _ (omega arith) c.loop-size.invariant.2 c.narrow.ensures,
     )

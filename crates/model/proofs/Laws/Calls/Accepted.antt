@@ -133,7 +133,7 @@ pub record Ready (memory : Memory) (s : ℕ) : Type 0 where
 
 module _ (memory : Memory) (s : ℕ) where
   -- where a list begins with them: that they don't hold, and none of the rest does
-  ready-then : (more : List Cause) → first (ready_causes (valid memory) memory.pending s ++ more) ≡ none → Ready memory s × NoneHold more
+  pub ready-then : (more : List Cause) → first (ready_causes (valid memory) memory.pending s ++ more) ≡ none → Ready memory s × NoneHold more
   unfolding memory_invalid
   ready-then more e =
       let c1 = first-none _ e in
@@ -174,7 +174,7 @@ module _ (memory : Memory) (s : ℕ) where
     pub ready : Ready memory s
     pub active : is_active (slot_at memory s).state ≡ true
 
-  active-then : (more : List Cause) → first (of_slot active_causes memory s ++ more) ≡ none → RollbackAccepted × NoneHold more
+  pub active-then : (more : List Cause) → first (of_slot active_causes memory s ++ more) ≡ none → RollbackAccepted × NoneHold more
   active-then more e =
       let t = ready-then _ e in
       let c12 = t.1 in

@@ -1,35 +1,20 @@
--- What an answer tells: that the call isn't refused, and what is answered; or by which error it is refused.
-use Prim.Native.Nat.{ℕ}
+-- What an answer tells: that the call isn't refused, and what is given; or by which error it is refused.
 use mathlib.Core.Path.{◌≡◌, refl}
 use mathlib.Core.Option.{Option, none, some}
-use Rattle.model.specs.Types.{Error, Answer, GrantAnswer, StoresAnswer}
-use Rattle.model_types.specs.Answers.{done, granted, due}
+use Rattle.model.specs.Types.{Error, Ok, Err, ⊤}
+use Rattle.model_types.specs.Answers.{answer}
 
--- done
-pub done-answered : (error : Option Error) → done error ≡ Answer.Done → error ≡ none
-unfolding done
-done-answered none e = refl
-done-answered (some error) e = cc
+module _ {A : Type 0} where
+  pub told-answer : (error : Option Error) (given told : A) → answer error given ≡ Ok told → (error ≡ none) × (given ≡ told)
+  unfolding answer
+  told-answer none given told e = (refl, cc)
+  told-answer (some error) given told e = (cc, cc)
 
--- stores due
-pub due-answered : (error : Option Error) (n cost : ℕ) → due error n ≡ StoresAnswer.Due cost → (error ≡ none) × (n ≡ cost)
-unfolding due
-due-answered none n cost e = (refl, cc)
-due-answered (some error) n cost e = (cc, cc)
+  pub told-refusal : (error : Option Error) (given : A) (by : Error) → answer error given ≡ Err by → error ≡ some by
+  unfolding answer
+  told-refusal none given by e = cc
+  told-refusal (some error) given by e = cc
 
-pub due-refused : (error : Option Error) (n : ℕ) (by : Error) → due error n ≡ StoresAnswer.Refused by → error ≡ some by
-unfolding due
-due-refused none n by e = cc
-due-refused (some error) n by e = cc
-
--- the first block granted
-pub grant-answered : (error : Option Error) (n block : ℕ) → granted error n ≡ GrantAnswer.First block → (error ≡ none) × (n ≡ block)
-unfolding granted
-grant-answered none n block e = (refl, cc)
-grant-answered (some error) n block e = (cc, cc)
-
--- a grant refused
-pub grant-refused : (error : Option Error) (n : ℕ) (by : Error) → granted error n ≡ GrantAnswer.Refused by → error ≡ some by
-unfolding granted
-grant-refused none n by e = cc
-grant-refused (some error) n by e = cc
+-- of a call that gives nothing
+pub told-done : (error : Option Error) → answer {A = ⊤} error tt ≡ Ok tt → error ≡ none
+told-done error e = (told-answer error tt tt e).0

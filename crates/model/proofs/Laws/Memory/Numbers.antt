@@ -6,26 +6,16 @@ use mathlib.Core.Option.{Option, none, some}
 use lib.Dec.{eqb}
 use Rattle.model.specs.Types.{Error, MemoryInvalid, DiskLength, DiskBlocks, DiskBitmap, DiskLog, DiskMismatch, BlocksRange, WorkPending, NothingPending, SlotRange, SlotBusy, SlotIdle, SlotPrecommitted, SlotNotPrecommitted, CountRange, ListShort, TooFewAvailable, BlockRange, BlockFree, BlockFreeing, LineMalformed, NoExtent, OverReserved, ReservedForOthers}
 use Rattle.model_types.specs.Errors.{code}
-use Rattle.model_types.specs.Answers.{done, granted, due, done_number, grant_number, stores_number}
+use Rattle.model_types.specs.Answers.{answer, answer_number}
 
 abbrev pub number_of : Option Error → ℕ
 number_of none = 0
 number_of (some error) = code error
 
-pub done-number : (error : Option Error) → done_number (done error) ≡ number_of error
-unfolding done
-done-number none = refl
-done-number (some error) = refl
-
-pub grant-number : (error : Option Error) (block : ℕ) → grant_number (granted error block) ≡ number_of error
-unfolding granted
-grant-number none block = refl
-grant-number (some error) block = refl
-
-pub stores-number : (error : Option Error) (n : ℕ) → stores_number (due error n) ≡ number_of error
-unfolding due
-stores-number none n = refl
-stores-number (some error) n = refl
+pub answer-number : {A : Type 0} (error : Option Error) (given : A) → answer_number (answer error given) ≡ number_of error
+unfolding answer
+answer-number none given = refl
+answer-number (some error) given = refl
 
 -- no error has the number 0
 pub code-positive : (error : Error) → eqb (code error) 0 ≡ false

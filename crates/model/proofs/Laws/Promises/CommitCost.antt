@@ -10,8 +10,8 @@ use lib.ListN.{length, get_or}
 use lib.Dec.{eqb}
 use borrow.Author.Tests.{eqb-false, eq-eqb, ne_eqb}
 use Rattle.bitmap.specs.Bits.{IsBitmap}
-use Rattle.model.specs.Types.{Error, Precommitted, Slot, Memory, GrantAnswer}
-use Rattle.model_types.specs.Answers.{due}
+use Rattle.model.specs.Types.{Error, Precommitted, Slot, Memory, Ok}
+use Rattle.model_types.specs.Answers.{answer}
 use Rattle.model_types.specs.Pending.{stores_for}
 use Rattle.model_types.specs.Memory.{slot_at, with_state, is_active, is_precommitted, volume_words}
 use Rattle.model.specs.Rules.First.{unless_refused}
@@ -25,7 +25,7 @@ use Rattle.model.specs.Rules.Calls.CommitCost.{commit_cost_error, cost_for, comm
 use Rattle.model.specs.Promises.FourCounts.{Eligible}
 use Rattle.model.specs.Promises.CommitCost.{CommitsWithin, CommitCostKept, CommitCostAnswered, CommitCostAtMost}
 use Rattle.model.proofs.Laws.Memory.Fields.{open-state, slot_same, active-there}
-use Rattle.model.proofs.Laws.Calls.Answered.{due-answered, grant-answered}
+use Rattle.model.proofs.Laws.Calls.Answered.{told-answer}
 use Rattle.model.proofs.Laws.Memory.Valid.{ValidParts, valid-parts, parts-valid}
 use Rattle.model.proofs.Laws.Calls.Accepted.{PrecommitAccepted, CommitAccepted, accepted-precommit, accepted-commit, CommitCostAccepted, commit-cost-accepted, accepted-commit-cost}
 use Rattle.model.proofs.Laws.Promises.FourCounts.{available-can-be-had}
@@ -96,11 +96,11 @@ module _ (memory : Memory) (s blocks : ℕ) (a : PrecommitAccepted memory s) (is
       (changed-words after s parts-after active-after)
 
   pub commits-within : CommitsWithin memory s (cost_for (volume_words memory) blocks)
-  unfolding precommit_answer precommit_memory commit_answer due unless_refused
+  unfolding precommit_answer precommit_memory commit_answer answer unless_refused
   commits-within =
       let accepted = accepted-precommit memory s a in
       record {
-        precommits = ap (λ (error : Option Error). due error 0) accepted;
+        precommits = ap (λ (error : Option Error). answer error 0) accepted;
         stores = commit_due after s;
         commits = rw (accepted, accepted-commit after s commit-ready);
         within = within-after;
@@ -133,7 +133,7 @@ module _ (memory : Memory) (s count : ℕ) (is : IsBitmap memory.sam.words) (a :
         }
 
     -- the allocate is granted
-    allocates : allocate_answer memory s count list ≡ GrantAnswer.First (get_or (first_met memory count) 0 0)
+    allocates : allocate_answer memory s count list ≡ Ok (get_or (first_met memory count) 0 0)
     unfolding counts
     allocates = (available-can-be-had memory a.ready.is_valid).granted s count list eligible (omega (arith, a.enough, a.spares))
 
@@ -174,12 +174,12 @@ module _ (memory : Memory) (s count : ℕ) (is : IsBitmap memory.sam.words) (a :
 
     within-allocated : CommitsWithin (allocate_memory memory s count list) s (commit_cost memory s count)
     unfolding allocate_memory allocate_answer unless_refused
-    within-allocated = rw (grant-answered (allocate_error memory s count list) _ _ allocates).0 within-taken
+    within-allocated = rw (told-answer (allocate_error memory s count list) _ _ allocates).0 within-taken
 
 pub commit-cost-kept : CommitCostKept
 unfolding commit_cost_answer
 commit-cost-kept memory is_valid is s count cost answered =
-    let e = due-answered (commit_cost_error memory s count) (commit_cost memory s count) cost answered in
+    let e = told-answer (commit_cost_error memory s count) (commit_cost memory s count) cost answered in
     let a = commit-cost-accepted memory s count e.0 in
     rw (← e.1)
     (record {
@@ -189,9 +189,9 @@ commit-cost-kept memory is_valid is s count cost answered =
     })
 
 pub commit-cost-answered : CommitCostAnswered
-unfolding commit_cost_answer due counts
+unfolding commit_cost_answer answer counts
 commit-cost-answered memory is_valid s count nothing below is_open few enough =
-    ap (λ (error : Option Error). due error (commit_cost memory s count))
+    ap (λ (error : Option Error). answer error (commit_cost memory s count))
     (accepted-commit-cost memory s count
     (record {
       ready = record { is_valid = is_valid; none_pending = nothing; below = below };

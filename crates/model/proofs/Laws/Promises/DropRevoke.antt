@@ -7,7 +7,7 @@ use borrow.Author.Tests.{lt-ltb}
 use Rattle.bitmap.specs.Sizes.{slot_count, slot_in_range}
 use Rattle.model.specs.Types.{Error, SlotState, Idle, Open, Precommitted, Nothing, Memory}
 use Rattle.model.specs.Rules.First.{first, first_or, unless_refused}
-use Rattle.model_types.specs.Answers.{done, due}
+use Rattle.model_types.specs.Answers.{answer}
 use Rattle.model_types.specs.Memory.{slot_at, idle_slot, is_precommitted, with_com}
 use Rattle.model_types.specs.Pending.{is_nothing}
 use Rattle.model.specs.Rules.Causes.{memory_invalid, nothing_pending, work_pending, slot_out_of_range, slot_active, slot_inactive, slot_precommitted, slot_not_precommitted}
@@ -18,7 +18,7 @@ use Rattle.model.specs.Rules.Calls.Drop.{drop_error, drop_answer, drop_memory}
 use Rattle.model.specs.Rules.Calls.Revoke.{revoke_error, revoke_answer, revoke_memory}
 use Rattle.model.specs.Promises.DropRevoke.{RollsBack, DropEndsOpen, RevokeEndsPrecommitted, DropSparesPrecommitted, RevokeSparesOpen, drop_for, revoke_for, AnswersByState}
 use Rattle.model.proofs.Laws.Memory.Fields.{open-state, precommitted-state, active-there, slot_same, slot-other}
-use Rattle.model.proofs.Laws.Calls.Answered.{done-answered, due-answered}
+use Rattle.model.proofs.Laws.Calls.Answered.{told-done, told-answer}
 use Rattle.model.proofs.Laws.Calls.Accepted.{RollbackAccepted, drop-accepted, drop-rolls-back, revoke-accepted, revoke-rolls-back}
 use Rattle.model.proofs.Laws.Memory.Valid.{valid-parts}
 use Rattle.model.proofs.Laws.Memory.Rollback.{rolled-back-bits}
@@ -42,14 +42,14 @@ rolls_back memory s a =
 pub drop-ends-open : DropEndsOpen
 unfolding drop_answer drop_memory unless_refused
 drop-ends-open memory s e =
-    let accepted : drop_error memory s ≡ none = done-answered _ e in
+    let accepted : drop_error memory s ≡ none = told-done _ e in
     let a = drop-accepted memory s accepted in
     rw accepted (record { meant = open-state _ a.active a.not_precommitted; rolls_back = rolls_back memory s (drop-rolls-back memory s accepted) })
 
 pub revoke-ends-precommitted : RevokeEndsPrecommitted
 unfolding revoke_answer revoke_memory unless_refused
 revoke-ends-precommitted memory s e =
-    let accepted : revoke_error memory s ≡ none = (due-answered _ 0 0 e).0 in
+    let accepted : revoke_error memory s ≡ none = (told-answer _ 0 0 e).0 in
     rw accepted
     (record {
       meant = precommitted-state _ (revoke-accepted memory s accepted).precommitted;
@@ -75,13 +75,13 @@ revoke-spares-open memory s e =
 -- where 1, 8 and 10 don't hold the state is all that is left to decide
 module _ (memory : Memory) (s : ℕ) (is_valid : valid memory ≡ true) (nothing : memory.pending ≡ Nothing) (below : s < slot_count) where
   drop-by-state : (state : SlotState) → (slot_at memory s).state ≡ state → drop_answer memory s ≡ drop_for state
-  unfolding drop_answer drop_error done first first_or memory_invalid work_pending nothing_pending is_nothing slot_out_of_range slot_in_range slot_inactive slot_active slot_precommitted
+  unfolding drop_answer drop_error answer first first_or memory_invalid work_pending nothing_pending is_nothing slot_out_of_range slot_in_range slot_inactive slot_active slot_precommitted
   drop-by-state Idle e = rw (is_valid, nothing, lt-ltb s slot_count below, e)
   drop-by-state Open e = rw (is_valid, nothing, lt-ltb s slot_count below, e)
   drop-by-state Precommitted e = rw (is_valid, nothing, lt-ltb s slot_count below, e)
 
   revoke-by-state : (state : SlotState) → (slot_at memory s).state ≡ state → revoke_answer memory s ≡ revoke_for state
-  unfolding revoke_answer revoke_error due first first_or memory_invalid work_pending nothing_pending is_nothing slot_out_of_range slot_in_range slot_inactive slot_active slot_precommitted slot_not_precommitted
+  unfolding revoke_answer revoke_error answer first first_or memory_invalid work_pending nothing_pending is_nothing slot_out_of_range slot_in_range slot_inactive slot_active slot_precommitted slot_not_precommitted
   revoke-by-state Idle e = rw (is_valid, nothing, lt-ltb s slot_count below, e)
   revoke-by-state Open e = rw (is_valid, nothing, lt-ltb s slot_count below, e)
   revoke-by-state Precommitted e = rw (is_valid, nothing, lt-ltb s slot_count below, e)

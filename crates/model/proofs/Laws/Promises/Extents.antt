@@ -14,8 +14,8 @@ use Rattle.bitmap.specs.Blocks.{member}
 use Rattle.bitmap.specs.Extents.{is_start, nearest}
 use Rattle.bitmap.proofs.Laws.Extents.{start-within, start-holds, start_of, starts-are, starts-all, nearest-member, nearest-least, nearest-lower, distance-same, distance-zero, member-some, member-adjoining, length-adjoining, distinct-adjoining, get_or-adjoining}
 use Rattle.bitmap.proofs.Laws.Blocks.{Distinct}
-use Rattle.model.specs.Types.{Memory, Error, GrantAnswer, NoExtent}
-use Rattle.model_types.specs.Answers.{granted}
+use Rattle.model.specs.Types.{Memory, Error, NoExtent, Ok}
+use Rattle.model_types.specs.Answers.{answer}
 use Rattle.model.specs.Rules.First.{unless_refused}
 use Rattle.model.specs.Rules.Causes.{block_out_of_range, extent_starts, no_extent}
 use Rattle.model.specs.Rules.CauseLists.{open_causes, of_slot}
@@ -23,7 +23,7 @@ use Rattle.model.specs.Rules.Calls.Precommit.{precommit_error}
 use Rattle.model.specs.Rules.Calls.AllocateExtent.{allocate_extent_error, nearest_extent, allocate_extent_answer, allocate_extent_list}
 use Rattle.model.specs.Promises.Extents.{IsExtent, Nearest, GrantsNearest, ListsAdjoining, ListsExtent, FindsExtent, NoneToFind, GrantsNamed}
 use Rattle.model.proofs.Laws.Calls.First.{none_first, none-append, some_after}
-use Rattle.model.proofs.Laws.Calls.Answered.{grant-answered, grant-refused}
+use Rattle.model.proofs.Laws.Calls.Answered.{told-answer, told-refusal}
 use Rattle.model.proofs.Laws.Calls.Accepted.{count-some, spared-others, AllocateExtentAccepted, allocate-extent-accepted}
 use Rattle.model.proofs.Laws.Promises.FourCounts.{eligible-open, eligible-room}
 use Rattle.model.proofs.Laws.Memory.Fit.{available_in}
@@ -122,10 +122,10 @@ module _ (memory : Memory) (s count near : ℕ) (list : List ℕ) where
     pub accepted : AllocateExtentAccepted memory s count near list
     pub first : nearest_start memory count near ≡ b
 
-  told : (b : ℕ) → allocate_extent_answer memory s count near list ≡ GrantAnswer.First b → Told b
+  told : (b : ℕ) → allocate_extent_answer memory s count near list ≡ Ok b → Told b
   unfolding allocate_extent_answer
   told b answered =
-      let e = grant-answered (allocate_extent_error memory s count near list) _ b answered in
+      let e = told-answer (allocate_extent_error memory s count near list) _ b answered in
       let a = allocate-extent-accepted memory s count near list e.0 in
       record {
         not-refused = e.0;
@@ -162,7 +162,7 @@ grants-named memory s near list b answered available =
 pub none-to-find : NoneToFind
 unfolding allocate_extent_answer allocate_extent_error no_extent
 none-to-find memory s count near list refused c extent =
-    let c15 = some_after (of_slot open_causes memory s) _ NoExtent refl (grant-refused (allocate_extent_error memory s count near list) _ NoExtent refused) in
+    let c15 = some_after (of_slot open_causes memory s) _ NoExtent refl (told-refusal (allocate_extent_error memory s count near list) _ NoExtent refused) in
     let c16 = c15.1 in
     let c18 = c16.1 in
     let c22 = c18.1 in
@@ -171,7 +171,7 @@ none-to-find memory s count near list refused c extent =
     ⊎_elim (λ h. let None-found = eqb-true (length starts) 0 h in omega (arith, found, None-found)) (λ c24. absurd c24.1) c22
 
 pub finds-extent : FindsExtent
-unfolding allocate_extent_answer allocate_extent_error precommit_error block_out_of_range no_extent granted
+unfolding allocate_extent_answer allocate_extent_error precommit_error block_out_of_range no_extent answer
 finds-extent memory is_valid s count near list eligible below c extent enough =
     let starts : List ℕ = extent_starts memory count in
     let found = member-some c starts (extent-starts memory count c eligible.some extent) in
@@ -183,4 +183,4 @@ finds-extent memory is_valid s count near list eligible below c extent enough =
       (ne_eqb (length starts) 0 (λ z. omega (arith, found, z)), (spared-others memory s count (omega (arith, enough)), tt)),
     ) in
     let b : ℕ = get_or (nearest_extent memory count near) 0 0 in
-    (b, ap (λ (e : Option Error). granted e b) accepted)
+    (b, ap (λ (e : Option Error). answer e b) accepted)

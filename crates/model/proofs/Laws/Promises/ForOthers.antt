@@ -21,7 +21,7 @@ use Rattle.model.specs.Rules.Calls.CommitCost.{commit_cost_error, commit_cost_an
 use Rattle.model.specs.Rules.Calls.Status.{counts}
 use Rattle.model.specs.Promises.Reservations.{NeverForOthers, OwnNotForOthers, NoneForOthers, ReservedLast}
 use Rattle.model.proofs.Laws.Calls.First.{some_after}
-use Rattle.model.proofs.Laws.Calls.Answered.{due-refused, grant-refused}
+use Rattle.model.proofs.Laws.Calls.Answered.{told-refusal}
 use Rattle.model.proofs.Laws.Memory.Reserves.{Spares, total-split}
 use Rattle.model.proofs.Laws.Calls.Accepted.{enough-available, extent-found, spared-others}
 use Rattle.model.proofs.Laws.Memory.Valid.{valid-parts}
@@ -72,10 +72,10 @@ module _ (memory : Memory) (s count : ℕ) where
   unfolding allocate_answer allocate_extent_answer commit_cost_answer
   never-refused spares =
       record {
-        allocate = λ list refused. never (allocate-for-others list (grant-refused (allocate_error memory s count list) _ ReservedForOthers refused)).holds;
+        allocate = λ list refused. never (allocate-for-others list (told-refusal (allocate_error memory s count list) _ ReservedForOthers refused)).holds;
         extent = λ near list refused.
-            never (extent-for-others near list (grant-refused (allocate_extent_error memory s count near list) _ ReservedForOthers refused)).holds;
-        cost = λ refused. never (cost-for-others (due-refused (commit_cost_error memory s count) _ ReservedForOthers refused)).holds;
+            never (extent-for-others near list (told-refusal (allocate_extent_error memory s count near list) _ ReservedForOthers refused)).holds;
+        cost = λ refused. never (cost-for-others (told-refusal (commit_cost_error memory s count) _ ReservedForOthers refused)).holds;
       }
     where
       never : of_available reserved_for_others memory count (others_reserved memory.reserves s) ≡ true → ⊥
@@ -100,11 +100,11 @@ reserved-last memory s count =
     record {
       allocate = λ list refused.
           enough-available memory count
-          (allocate-for-others memory s count list (grant-refused (allocate_error memory s count list) _ ReservedForOthers refused)).passed;
+          (allocate-for-others memory s count list (told-refusal (allocate_error memory s count list) _ ReservedForOthers refused)).passed;
       extent = λ near list refused.
-          let told = extent-for-others memory s count near list (grant-refused (allocate_extent_error memory s count near list) _ ReservedForOthers refused) in
+          let told = extent-for-others memory s count near list (told-refusal (allocate_extent_error memory s count near list) _ ReservedForOthers refused) in
           (_, nearest-extent memory count near (extent-found memory count told.passed));
       cost = λ refused.
           enough-available memory count
-          (cost-for-others memory s count (due-refused (commit_cost_error memory s count) _ ReservedForOthers refused)).passed;
+          (cost-for-others memory s count (told-refusal (commit_cost_error memory s count) _ ReservedForOthers refused)).passed;
     }

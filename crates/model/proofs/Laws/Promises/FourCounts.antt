@@ -11,7 +11,7 @@ use borrow.Author.Tests.{le-leb, lt-ltb, le-ltb}
 use Rattle.bitmap.specs.Sizes.{max_count, count_in_range}
 use Rattle.bitmap.proofs.Laws.Count.{allocated-parts, four-kinds}
 use Rattle.model.specs.Types.{Memory, MemoryInvalid, CountRange, ListShort, TooFewAvailable}
-use Rattle.model_types.specs.Answers.{granted, counted}
+use Rattle.model_types.specs.Answers.{answer}
 use Rattle.model.specs.Rules.First.{Cause, first, first_or, ◌⇒◌}
 use Rattle.model.specs.Rules.Valid.{valid}
 use Rattle.model.specs.Rules.Available.{available}
@@ -24,11 +24,11 @@ use Rattle.model.specs.Promises.FourCounts.{StatusAnswersCounts, FourAddUp, Allo
 use Rattle.model.specs.Rules.Calls.Precommit.{precommit_error}
 use Rattle.model_types.specs.Memory.{is_active, is_precommitted}
 use Rattle.model.proofs.Laws.Calls.First.{cause-passed, none_first, none-append, some_after}
-use Rattle.model.proofs.Laws.Calls.Answered.{grant-refused}
+use Rattle.model.proofs.Laws.Calls.Answered.{told-refusal}
 use Rattle.model.proofs.Laws.Calls.Accepted.{accepted-precommit}
 
 pub status-answers-counts : StatusAnswersCounts
-unfolding status_answer status_error memory_invalid counted
+unfolding status_answer status_error memory_invalid answer
 status-answers-counts memory is_valid = rw (none_first (not (valid memory) ⇒ MemoryInvalid ∷ []) (ap not is_valid, tt))
 
 pub four-add-up : FourAddUp
@@ -80,12 +80,12 @@ module _ (memory : Memory) (s count : ℕ) (list : List ℕ) (is_valid : valid m
   decides = none-append _ _ eligible-open ∙ eligible-room _
 
 pub available-can-be-had : AvailableCanBeHad
-unfolding counts allocate_answer too_few_available reserved_for_others available granted first first_or
+unfolding counts allocate_answer too_few_available reserved_for_others available answer first first_or
 available-can-be-had memory is_valid =
     record {
       never =
           λ s count list enough refused.
-          let few = too_few memory s count list (grant-refused (allocate_error memory s count list) _ TooFewAvailable refused) in
+          let few = too_few memory s count list (told-refusal (allocate_error memory s count list) _ TooFewAvailable refused) in
           false≢true (sym (le-ltb (length (available memory)) count enough) ∙ few);
       granted = λ s count list eligible enough.
           rw (

@@ -15,7 +15,7 @@ use Rattle.bitmap.specs.Round.{round_from, wrapped, after_last}
 use Rattle.bitmap.proofs.Laws.Blocks.{get_or-member, member-take, from-append}
 use Rattle.bitmap.proofs.Laws.Round.{member-round, round-member, round-zero, round_same, without, available-without, round-drop, after-met-lt, after-last-at, wrapped-below, wrapped-end}
 use Rattle.bitmap.proofs.Laws.Ahead.{Rises, rises-at, rises-first, round-rises}
-use Rattle.model.specs.Types.{Pending, Memory, Error, GrantAnswer}
+use Rattle.model.specs.Types.{Pending, Memory, Error, Ok}
 use Rattle.model_types.specs.Memory.{zero_memory}
 use Rattle.model.specs.Rules.First.{unless_refused}
 use Rattle.model.specs.Rules.Available.{available}
@@ -30,7 +30,7 @@ use Rattle.model.proofs.Laws.Works.Work.{Fails, by-failing}
 use Rattle.model.proofs.Laws.Works.Change.{change-frame}
 use Rattle.model.proofs.Laws.Works.Progress.{by-finish, by-store, by-begin}
 use Rattle.model.specs.Promises.NextFit.{AvailableBlock, ahead, ListsMet, ListsFirstMet, AnswersFirstMet, CutRotation, ListsRotation, LowestFromZero, Behind, CursorBehindLast, CursorBehindExtent, CarriesOn, CursorAnew, moves_cursor, CursorStays}
-use Rattle.model.proofs.Laws.Calls.Answered.{grant-answered}
+use Rattle.model.proofs.Laws.Calls.Answered.{told-answer}
 use Rattle.model.proofs.Laws.Calls.Accepted.{AllocateAccepted, allocate-accepted, allocate-extent-accepted}
 use Rattle.model.proofs.Laws.Memory.Valid.{ValidParts, valid-parts}
 use Rattle.model.proofs.Laws.Memory.Fit.{available_in}
@@ -90,7 +90,7 @@ available-after memory s blocks few b h = available-without memory.blocks memory
 
 -- ---- a grant
 
-module _ (memory : Memory) (s count : ℕ) (list : List ℕ) (b : ℕ) (answered : allocate_answer memory s count list ≡ GrantAnswer.First b) where
+module _ (memory : Memory) (s count : ℕ) (list : List ℕ) (b : ℕ) (answered : allocate_answer memory s count list ≡ Ok b) where
   -- the blocks met, those granted, and the list after it
   abbrev all : List ℕ
   all = met memory
@@ -104,7 +104,7 @@ module _ (memory : Memory) (s count : ℕ) (list : List ℕ) (b : ℕ) (answered
   -- what an answered block tells
   told : (allocate_error memory s count list ≡ none) × (get_or blocks 0 0 ≡ b)
   unfolding allocate_answer
-  told = grant-answered (allocate_error memory s count list) (get_or blocks 0 0) b answered
+  told = told-answer (allocate_error memory s count list) (get_or blocks 0 0) b answered
 
   accepted : AllocateAccepted memory s count list
   accepted = allocate-accepted memory s count list told.0
@@ -222,7 +222,7 @@ cursor-behind-last = behind
 pub cursor-behind-extent : CursorBehindExtent
 unfolding allocate_extent_answer allocate_extent_memory unless_refused
 cursor-behind-extent memory s count near list b answered =
-    let e = grant-answered (allocate_extent_error memory s count near list) _ b answered in
+    let e = told-answer (allocate_extent_error memory s count near list) _ b answered in
     let a = allocate-extent-accepted memory s count near list e.0 in
     let last : get_or (nearest_extent memory count near) (count - 1) 0 ≡ b + count - 1 =
     nearest-at memory count near (count - 1) (omega (arith, a.some)) ∙ omega (arith, a.some, nearest-at memory count near 0 a.some, e.1) in

@@ -12,8 +12,8 @@ use lib.Seq.{get_or-set_same}
 use lib.Dec.{ltb}
 use borrow.Author.Tests.{lt-ltb, le-ltb}
 use Rattle.bitmap.specs.Sizes.{slot_count, slot_in_range}
-use Rattle.model.specs.Types.{Error, SlotState, Idle, Open, Precommitted, Nothing, Reserve, Memory, GrantAnswer, WorkPending, SlotBusy, OverReserved}
-use Rattle.model_types.specs.Answers.{done, granted}
+use Rattle.model.specs.Types.{Error, SlotState, Idle, Open, Precommitted, Nothing, Reserve, Memory, WorkPending, SlotBusy, OverReserved, Ok, Err}
+use Rattle.model_types.specs.Answers.{answer}
 use Rattle.model_types.specs.Memory.{slot_at, reserve_at, no_reserve, is_active}
 use Rattle.model_types.specs.Pending.{is_nothing}
 use Rattle.model.specs.Rules.First.{first, first_or, unless_refused}
@@ -33,7 +33,7 @@ use Rattle.model.specs.Rules.Calls.Status.{counts}
 use Rattle.model.specs.Promises.Reservations.{MayAsk, MayAlwaysAllocate, ReservationsFit, IdleDrawsNone, ReserveAnswers, ReserveSets, Draws, GrantDraws, RollbackNeverLowers}
 use Rattle.model.proofs.Laws.Calls.First.{cause-holds, cause-passed, no-cause, some-append, none-append}
 use Rattle.model.proofs.Laws.Calls.Accepted.{is-nothing}
-use Rattle.model.proofs.Laws.Calls.Answered.{done-answered, grant-answered}
+use Rattle.model.proofs.Laws.Calls.Answered.{told-done, told-answer}
 use Rattle.model.proofs.Laws.Memory.Reserves.{total-set}
 use Rattle.model.proofs.Laws.Memory.Valid.{valid-parts}
 use Rattle.model.proofs.Laws.Memory.Fit.{idle-drawn}
@@ -55,7 +55,7 @@ idle-draws-none memory is_valid s below e = idle-drawn memory s (valid-parts mem
 -- ---- an allocate up to the reservation
 
 module _ (memory : Memory) (is_valid : valid memory ≡ true) (s count : ℕ) (list : List ℕ) (asks : MayAsk memory s count list) where
-  is-granted : memory.pending ≡ Nothing → allocate_answer memory s count list ≡ GrantAnswer.First (get_or (first_met memory count) 0 0)
+  is-granted : memory.pending ≡ Nothing → allocate_answer memory s count list ≡ Ok (get_or (first_met memory count) 0 0)
   unfolding counts
   is-granted nothing =
       (available-can-be-had memory is_valid).granted s count list
@@ -70,11 +70,11 @@ module _ (memory : Memory) (is_valid : valid memory ≡ true) (s count : ℕ) (l
       (omega (arith, asks.reserved, both-fit memory is_valid s))
 
   -- 8 refuses it, whatever is pending
-  is-delayed : (memory.pending ≡ Nothing → ⊥) → allocate_answer memory s count list ≡ GrantAnswer.Refused WorkPending
-  unfolding allocate_answer allocate_error granted first first_or memory_invalid work_pending nothing_pending
+  is-delayed : (memory.pending ≡ Nothing → ⊥) → allocate_answer memory s count list ≡ Err WorkPending
+  unfolding allocate_answer allocate_error answer first first_or memory_invalid work_pending nothing_pending
   is-delayed some-work = go (is_nothing memory.pending) refl
     where
-      go : (t : Bool) → is_nothing memory.pending ≡ t → allocate_answer memory s count list ≡ GrantAnswer.Refused WorkPending
+      go : (t : Bool) → is_nothing memory.pending ≡ t → allocate_answer memory s count list ≡ Err WorkPending
       go true e = absurd (some-work (is-nothing memory.pending e))
       go false e = rw (is_valid, e)
 
@@ -112,18 +112,18 @@ module _ (memory : Memory) (is_valid : valid memory ≡ true) (s reservation : �
   is-busy Precommitted e busy = some-append _ _ SlotBusy (start-by-state Precommitted e)
 
 pub reserve-answers : ReserveAnswers
-unfolding counts reserve_answer done
+unfolding counts reserve_answer answer
 reserve-answers memory is_valid s reservation nothing below there =
     let compares = over-reserved memory s reservation there in
     record {
-      busy = λ busy. ap done (is-busy memory is_valid s reservation nothing below (slot_at memory s).state refl busy);
+      busy = λ busy. ap (λ (e : Option Error). answer e tt) (is-busy memory is_valid s reservation nothing below (slot_at memory s).state refl busy);
       fits = λ idle few.
-          ap done
+          ap (λ (e : Option Error). answer e tt)
           (idle-decides memory is_valid s reservation nothing below idle
           ∙ cause-passed _ OverReserved [] (compares ∙ le-ltb _ _ few)
           ∙ no-cause);
       exceeds = λ idle many.
-          ap done
+          ap (λ (e : Option Error). answer e tt)
           (idle-decides memory is_valid s reservation nothing below idle
           ∙ cause-holds _ OverReserved [] (compares ∙ lt-ltb _ _ many));
     }
@@ -131,7 +131,7 @@ reserve-answers memory is_valid s reservation nothing below there =
 pub reserve-sets : ReserveSets
 unfolding reserve_answer reserve_memory reserving unless_refused
 reserve-sets memory s reservation there answered =
-    rw (done-answered (reserve_error memory s reservation) answered)
+    rw (told-done (reserve_error memory s reservation) answered)
     (ap (λ (reserve : Reserve). reserve.reservation) (get_or-set_same memory.reserves s _ no_reserve there))
 
 -- ---- what a grant draws, and a rollback puts back
@@ -146,10 +146,10 @@ unfolding allocate_answer allocate_memory allocate_extent_answer allocate_extent
 grant-draws memory s count list =
     record {
       allocate = λ b answered.
-          let e = (grant-answered (allocate_error memory s count list) _ b answered).0 in
+          let e = (told-answer (allocate_error memory s count list) _ b answered).0 in
           rw e (taking-draws memory s count _ (allocate-grants memory s count list e).size);
       extent = λ near b answered.
-          rw (grant-answered (allocate_extent_error memory s count near list) _ b answered).0
+          rw (told-answer (allocate_extent_error memory s count near list) _ b answered).0
           (taking-draws memory s count _ (nearest-length memory count near));
     }
 

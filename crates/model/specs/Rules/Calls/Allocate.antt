@@ -5,9 +5,9 @@ use Rattle.std.specs.Prelude.{ℕ, ◌||◌, List, ◌++◌, length, take, drop,
 use Rattle.std.proofs.Math.Option.{Option}
 use Rattle.bitmap.specs.Blocks.{is_available, member}
 use Rattle.bitmap.specs.Round.{round_from, after_last}
-use Rattle.model.specs.Types.{Error, GrantAnswer, Memory}
+use Rattle.model.specs.Types.{Error, Memory, Answer}
 use Rattle.model.specs.Rules.First.{first, unless_refused}
-use Rattle.model_types.specs.Answers.{granted}
+use Rattle.model_types.specs.Answers.{answer}
 use Rattle.model_types.specs.Memory.{with_cursor, with_com, with_slot, with_reserve, with_tam, slot_at, reserve_at, com_bit, tam_bit, volume_bitmap}
 use Rattle.model.specs.Rules.Reserves.{others_reserved, drawing}
 use Rattle.model.specs.Rules.Causes.{of_available}
@@ -40,8 +40,8 @@ taking memory s blocks =
     s
     (drawing (reserve_at memory s) (length blocks))
 
-unfoldable pub allocate_answer : Memory → ℕ → ℕ → List ℕ → GrantAnswer
-allocate_answer memory s count list = granted (allocate_error memory s count list) (get_or (first_met memory count) 0 0)
+unfoldable pub allocate_answer : Memory → ℕ → ℕ → List ℕ → Answer ℕ
+allocate_answer memory s count list = answer (allocate_error memory s count list) (get_or (first_met memory count) 0 0)
 
 unfoldable pub allocate_memory : Memory → ℕ → ℕ → List ℕ → Memory
 allocate_memory memory s count list = unless_refused (allocate_error memory s count list) (taking memory s (first_met memory count)) memory

@@ -4,9 +4,9 @@
 use Rattle.std.specs.Prelude.{ℕ, List, ◌∷◌, ◌++◌, drop, get_or}
 use Rattle.std.proofs.Math.Option.{Option}
 use Rattle.bitmap.specs.Extents.{adjoining, nearest}
-use Rattle.model.specs.Types.{Error, GrantAnswer, Memory, NoExtent}
+use Rattle.model.specs.Types.{Error, Memory, NoExtent, Answer}
 use Rattle.model.specs.Rules.First.{first, ◌⇒◌, unless_refused}
-use Rattle.model_types.specs.Answers.{granted}
+use Rattle.model_types.specs.Answers.{answer}
 use Rattle.model.specs.Rules.Reserves.{others_reserved}
 use Rattle.model.specs.Rules.Causes.{of_available, extent_starts, no_extent}
 use Rattle.model.specs.Rules.CauseLists.{open_causes, of_slot, spare_causes, request_causes}
@@ -25,9 +25,9 @@ allocate_extent_error memory s count near list =
 unfoldable pub nearest_extent : Memory → ℕ → ℕ → List ℕ
 nearest_extent memory count near = adjoining (nearest near memory.blocks (extent_starts memory count)) count
 
-unfoldable pub allocate_extent_answer : Memory → ℕ → ℕ → ℕ → List ℕ → GrantAnswer
+unfoldable pub allocate_extent_answer : Memory → ℕ → ℕ → ℕ → List ℕ → Answer ℕ
 allocate_extent_answer memory s count near list =
-    granted (allocate_extent_error memory s count near list) (get_or (nearest_extent memory count near) 0 0)
+    answer (allocate_extent_error memory s count near list) (get_or (nearest_extent memory count near) 0 0)
 
 unfoldable pub allocate_extent_memory : Memory → ℕ → ℕ → ℕ → List ℕ → Memory
 allocate_extent_memory memory s count near list =

@@ -2,9 +2,9 @@
 -- store call makes the next ... The maps in memory change with the last store."
 use Rattle.std.specs.Prelude.{ℕ, cond, eqb}
 use Rattle.std.proofs.Math.Option.{Option}
-use Rattle.model.specs.Types.{Error, StoresAnswer, Commit, Memory}
+use Rattle.model.specs.Types.{Error, Commit, Memory, Answer}
 use Rattle.model.specs.Rules.First.{first, unless_refused}
-use Rattle.model_types.specs.Answers.{due}
+use Rattle.model_types.specs.Answers.{answer}
 use Rattle.model_types.specs.Memory.{with_pending}
 use Rattle.model.specs.Rules.Commit.{changed_of, commit_due, committed}
 use Rattle.model.specs.Rules.CauseLists.{precommitted_causes, of_slot}
@@ -16,8 +16,8 @@ commit_error memory s = first (of_slot precommitted_causes memory s)
 unfoldable pub committing : Memory → ℕ → Memory
 committing memory s = cond (eqb (changed_of memory s) 0) (committed memory s) (with_pending memory (Commit s 0 (commit_due memory s)))
 
-unfoldable pub commit_answer : Memory → ℕ → StoresAnswer
-commit_answer memory s = due (commit_error memory s) (commit_due memory s)
+unfoldable pub commit_answer : Memory → ℕ → Answer ℕ
+commit_answer memory s = answer (commit_error memory s) (commit_due memory s)
 
 unfoldable pub commit_memory : Memory → ℕ → Memory
 commit_memory memory s = unless_refused (commit_error memory s) (committing memory s) memory

@@ -3,9 +3,9 @@
 -- stays.
 use Rattle.std.specs.Prelude.{ℕ, ◌+◌, min, cond, ◌++◌, length, eqb}
 use Rattle.std.proofs.Math.Option.{Option}
-use Rattle.model.specs.Types.{Error, StoresAnswer, Memory}
+use Rattle.model.specs.Types.{Error, Memory, Answer}
 use Rattle.model.specs.Rules.First.{first}
-use Rattle.model_types.specs.Answers.{due}
+use Rattle.model_types.specs.Answers.{answer}
 use Rattle.model_types.specs.Memory.{volume_words}
 use Rattle.model_types.specs.Pending.{stores_for}
 use Rattle.model.specs.Rules.Touched.{touched_blocks}
@@ -26,5 +26,5 @@ cost_for words blocks = cond (eqb blocks 0) 0 (stores_for (min blocks words))
 unfoldable pub commit_cost : Memory → ℕ → ℕ → ℕ
 commit_cost memory s count = cost_for (volume_words memory) (length (touched_blocks memory s) + count)
 
-unfoldable pub commit_cost_answer : Memory → ℕ → ℕ → StoresAnswer
-commit_cost_answer memory s count = due (commit_cost_error memory s count) (commit_cost memory s count)
+unfoldable pub commit_cost_answer : Memory → ℕ → ℕ → Answer ℕ
+commit_cost_answer memory s count = answer (commit_cost_error memory s count) (commit_cost memory s count)

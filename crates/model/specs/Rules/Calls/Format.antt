@@ -1,10 +1,10 @@
 -- Format. "Format writes all 386 words in one call: m, then zeros."
 use Rattle.std.specs.Prelude.{ℕ, ◌-◌, List, [], ◌∷◌, replicate}
 use Rattle.std.proofs.Math.Option.{Option}
-use Rattle.model.specs.Types.{Error, Answer, DiskLength, BlocksRange}
+use Rattle.model.specs.Types.{Error, DiskLength, BlocksRange, Answer, ⊤}
 use Rattle.model.specs.Rules.Sizes.{disk_words}
 use Rattle.model.specs.Rules.First.{first, ◌⇒◌, unless_refused}
-use Rattle.model_types.specs.Answers.{done}
+use Rattle.model_types.specs.Answers.{answer}
 use Rattle.model.specs.Rules.Causes.{disk_length_wrong, blocks_out_of_range}
 
 unfoldable pub format_error : List ℕ → ℕ → Option Error
@@ -18,8 +18,8 @@ format_error disk blocks =
 unfoldable pub formatted : ℕ → List ℕ
 formatted blocks = blocks ∷ replicate (disk_words - 1) 0
 
-unfoldable pub format_answer : List ℕ → ℕ → Answer
-format_answer disk blocks = done (format_error disk blocks)
+unfoldable pub format_answer : List ℕ → ℕ → Answer ⊤
+format_answer disk blocks = answer (format_error disk blocks) tt
 
 unfoldable pub format_disk : List ℕ → ℕ → List ℕ
 format_disk disk blocks = unless_refused (format_error disk blocks) (formatted blocks) disk

@@ -3,9 +3,9 @@
 -- answers stores due as a commit does: it has none.
 use Rattle.std.specs.Prelude.{ℕ}
 use Rattle.std.proofs.Math.Option.{Option}
-use Rattle.model.specs.Types.{Error, StoresAnswer, Memory}
+use Rattle.model.specs.Types.{Error, Memory, Answer}
 use Rattle.model.specs.Rules.First.{first, unless_refused}
-use Rattle.model_types.specs.Answers.{due}
+use Rattle.model_types.specs.Answers.{answer}
 use Rattle.model.specs.Rules.CauseLists.{precommitted_causes, of_slot}
 use Rattle.model.specs.Rules.Rollback.{rolled_back}
 
@@ -13,8 +13,8 @@ use Rattle.model.specs.Rules.Rollback.{rolled_back}
 unfoldable pub revoke_error : Memory → ℕ → Option Error
 revoke_error memory s = first (of_slot precommitted_causes memory s)
 
-unfoldable pub revoke_answer : Memory → ℕ → StoresAnswer
-revoke_answer memory s = due (revoke_error memory s) 0
+unfoldable pub revoke_answer : Memory → ℕ → Answer ℕ
+revoke_answer memory s = answer (revoke_error memory s) 0
 
 unfoldable pub revoke_memory : Memory → ℕ → Memory
 revoke_memory memory s = unless_refused (revoke_error memory s) (rolled_back memory s) memory

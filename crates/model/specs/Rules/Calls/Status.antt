@@ -4,9 +4,9 @@
 use Rattle.std.specs.Prelude.{ℕ, ◌+◌, cond, List, [], ◌∷◌, length}
 use Rattle.std.proofs.Math.Option.{Option}
 use Rattle.bitmap.specs.Blocks.{allocated_blocks, allocating_blocks, freeing_blocks, held_blocks}
-use Rattle.model.specs.Types.{Error, StatusAnswer, Counts, Slot, Memory, MemoryInvalid}
+use Rattle.model.specs.Types.{Error, Counts, Slot, Memory, MemoryInvalid, Answer}
 use Rattle.model.specs.Rules.First.{first, ◌⇒◌}
-use Rattle.model_types.specs.Answers.{counted}
+use Rattle.model_types.specs.Answers.{answer}
 use Rattle.model_types.specs.Memory.{is_active}
 use Rattle.model.specs.Rules.Available.{available}
 use Rattle.model.specs.Rules.Valid.{valid}
@@ -34,5 +34,5 @@ counts memory =
       active = active_slots memory.slots;
     }
 
-unfoldable pub status_answer : Memory → StatusAnswer
-status_answer memory = counted (status_error memory) (counts memory)
+unfoldable pub status_answer : Memory → Answer Counts
+status_answer memory = answer (status_error memory) (counts memory)

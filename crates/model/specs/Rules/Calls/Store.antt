@@ -1,9 +1,9 @@
 -- Store. "each store call makes the next", and the work ends with its last store.
 use Rattle.std.specs.Prelude.{ℕ, ◌+◌, ◌-◌, cond, List, eqb}
 use Rattle.std.proofs.Math.Option.{Option}
-use Rattle.model.specs.Types.{Error, StoresAnswer, Pending, Memory}
+use Rattle.model.specs.Types.{Error, Pending, Memory, Answer}
 use Rattle.model.specs.Rules.First.{first, unless_refused}
-use Rattle.model_types.specs.Answers.{due}
+use Rattle.model_types.specs.Answers.{answer}
 use Rattle.model_types.specs.Memory.{with_pending}
 use Rattle.model.specs.Rules.Pending.{stores_done, stores_due, one_more_done, new_sam, finished}
 use Rattle.model.specs.Rules.Valid.{valid}
@@ -28,8 +28,8 @@ advanced memory pending =
 unfoldable pub next_stored : Memory → List ℕ → List ℕ
 next_stored memory disk = next_disk memory.sam.words (new_sam memory memory.pending) disk memory.pending
 
-unfoldable pub store_answer : Memory → List ℕ → StoresAnswer
-store_answer memory disk = due (store_error memory disk) (still_due memory.pending)
+unfoldable pub store_answer : Memory → List ℕ → Answer ℕ
+store_answer memory disk = answer (store_error memory disk) (still_due memory.pending)
 
 unfoldable pub store_memory : Memory → List ℕ → Memory
 store_memory memory disk = unless_refused (store_error memory disk) (advanced memory memory.pending) memory

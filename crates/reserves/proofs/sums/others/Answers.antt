@@ -4,7 +4,7 @@ use Rattle.model.proofs.Laws.Memory.Reserves.{total-split}
 use Rattle.reserves.proofs.sums.others.Goals as goal
 
 pub overflow_sub-result : goal.overflow_sub-result
-overflow_sub-result c = omega (arith, total-split c.args.reserves c.args.at)
+overflow_sub-result c = omega (arith, total-split c.args.reserves.now c.args.at)
 
 pub returns : goal.returns
-returns c = omega (arith, total-split c.args.reserves c.args.at)
+returns c = omega (arith, total-split c.args.reserves.now c.args.at)

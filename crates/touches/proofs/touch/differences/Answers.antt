@@ -1,16 +1,7 @@
--- A word more is written; at the end all are.
-use mathlib.Core.Path.{refl}
-use Rattle.touches.proofs.Laws.Words.{differ-step, differ-all}
+-- Each word is the difference of the two in its place.
+use Rattle.std.proofs.Common.{rules}
+use Rattle.touches.proofs.Laws.Differ.{differ_each}
 use Rattle.touches.proofs.touch.differences.Goals as goal
 
-pub loop-k-preserved : goal.loop-k-preserved
-loop-k-preserved c =
-    let a = c.args in
-    differ-step a.sam.now a.«com».now a.left.now c.loop-k.k c.requires.bitmap c.requires.bitmap_2 c.requires.left_len c.loop-k.invariant
-    c.loop-k-test.true refl
-
 pub returns : goal.returns
-returns c =
-    let a = c.args in
-    differ-all a.sam.now a.«com».now a.left.now c.loop-k.k c.requires.bitmap c.requires.bitmap_2 c.requires.left_len c.loop-k.invariant
-    c.loop-k-test.false
+returns c = differ_each _ _ _ c.told-sam c.told-com c.combine.array_long (λ k h. search (c.combine.ensures k h, rules))

@@ -1,2 +1,0 @@
--- Numbers in a line.
-pub mod Onward

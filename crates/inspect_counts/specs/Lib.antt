@@ -1,0 +1,2 @@
+-- What is printed of the counts.
+pub mod Shown

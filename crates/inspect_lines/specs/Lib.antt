@@ -1,2 +1,0 @@
--- Where reading stands.
-pub mod Reads

@@ -1,0 +1,2 @@
+-- A part of the memory overwritten.
+pub mod Overwritten

@@ -1,2 +1,0 @@
--- The sizes of a fixture.
-pub mod Shape

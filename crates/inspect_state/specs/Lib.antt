@@ -1,2 +1,0 @@
--- Bounds of what is kept.
-pub mod Sized

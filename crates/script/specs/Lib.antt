@@ -1,0 +1,2 @@
+-- The numbers of a script.
+pub mod Script

@@ -1,2 +1,0 @@
--- What status answers, by its parts.
-pub mod Status
