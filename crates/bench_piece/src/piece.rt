@@ -12,9 +12,9 @@ use bench_step::cut::line_end;
 use bench_step::lines::answer_lines;
 
 // Answers the line that is kept, as if byte 10 ended it, and gives the end of what is printed.
-fn answer_kept(run: &mut Run, out: &mut [u8]) -> usize
+fn answer_kept(run: &mut Run, disk: &mut [u32], out: &mut [u8]) -> usize
     requires { max_answer * kept_room ≤ length out.old }
-    ensures { LineEnded (run_state [] run.old) run.new result out.new }
+    ensures { LineEnded (run_state [] run.old disk.old) run.new disk.new result out.new }
 {
     let len = run.len;
     run.line[len] = b'\n';
@@ -22,7 +22,7 @@ fn answer_kept(run: &mut Run, out: &mut [u8]) -> usize
         &run.line[..len + 1],
         run.number,
         &mut run.memory,
-        &mut run.disk,
+        disk,
         out,
         0,
     );
@@ -32,12 +32,12 @@ fn answer_kept(run: &mut Run, out: &mut [u8]) -> usize
 }
 
 // Answers the lines behind that one, whose answer ends at index at, and gives the end of what is printed.
-fn answer_rest(input: &[u8], run: &mut Run, out: &mut [u8], at: usize) -> usize
+fn answer_rest(input: &[u8], run: &mut Run, disk: &mut [u32], out: &mut [u8], at: usize) -> usize
     requires none_kept { run.old.len ≡ 0 }
     requires input_in_bounds { at + max_answer * length input.now ≤ length out.old }
-    ensures { PieceRun (run_state (take at out.old) run.old) input.now run.new result out.new }
+    ensures { PieceRun (run_state (take at out.old) run.old disk.old) input.now run.new disk.new result out.new }
 {
-    let lines = answer_lines(input, run.number, &mut run.memory, &mut run.disk, out, at);
+    let lines = answer_lines(input, run.number, &mut run.memory, disk, out, at);
     run.number = lines.number;
     run.len = keep(&input[lines.rest..], &mut run.line, 0);
     lines.at
@@ -45,17 +45,17 @@ fn answer_rest(input: &[u8], run: &mut Run, out: &mut [u8], at: usize) -> usize
 
 // Answers the lines that end in a piece of input, keeps the bytes behind the last of them, and gives the end of what is
 // printed. There has to be room for an answer to each byte of the piece and of the line that is kept.
-pub fn run_piece(input: &[u8], run: &mut Run, out: &mut [u8]) -> usize
+pub fn run_piece(input: &[u8], run: &mut Run, disk: &mut [u32], out: &mut [u8]) -> usize
     requires { max_answer * (kept_room + length input.now) ≤ length out.old }
-    ensures { PieceRun (run_state [] run.old) input.now run.new result out.new }
+    ensures { PieceRun (run_state [] run.old disk.old) input.now run.new disk.new result out.new }
 {
     let end = line_end(input, 0);
     run.len = keep(&input[..end], &mut run.line, run.len);
     if end == input.len() {
         return 0;
     }
-    let at = answer_kept(run, out);
-    answer_rest(&input[end + 1..], run, out, at)
+    let at = answer_kept(run, disk, out);
+    answer_rest(&input[end + 1..], run, disk, out, at)
 }
 
 // Whether more is to be read behind a piece: not at the input's end, nor past the last line.
@@ -67,12 +67,12 @@ pub fn reads_on(input: &[u8], run: &Run) -> bool
 
 // Answers a last line that no byte 10 ends, and gives the end of what is printed.
 #[tactic(auto, using(crate::proofs::Laws::Line::last_steps))]
-pub fn last_line(run: &mut Run, out: &mut [u8]) -> usize
+pub fn last_line(run: &mut Run, disk: &mut [u32], out: &mut [u8]) -> usize
     requires { max_answer * kept_room ≤ length out.old }
-    ensures { LastLine (run_state [] run.old) result out.new }
+    ensures { LastLine (run_state [] run.old disk.old) result out.new }
 {
     if run.len == 0 {
         return 0;
     }
-    answer_kept(run, out)
+    answer_kept(run, disk, out)
 }

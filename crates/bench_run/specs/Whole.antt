@@ -22,10 +22,10 @@ pub data Stopped (most : ℕ) (account : Read) (bytes : List ℕ) : Type 0 where
   count_ended : 2 ^ 64 - 1 ≤ account.count + most → Stopped most account bytes
 
 -- all pieces are read, and what they print is written
-pub record AllRead (most : ℕ) (run : Run) (done : Done) : Type 0 where
+pub record AllRead (most : ℕ) (run : Run) (disk : List ℕ) (done : Done) : Type 0 where
   pub bytes : List ℕ
   pub written : List ℕ
-  pub reached : Reached bytes written (run_state [] run)
+  pub reached : Reached bytes written (run_state [] run disk)
   pub taken : done.read.count ≡ length bytes
   pub counted : done.written.count ≡ length written
   pub few : done.written.count ≤ max_answer * max_lines

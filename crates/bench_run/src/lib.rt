@@ -6,7 +6,7 @@
 mod reading;
 mod writing;
 
-ghost use Rattle.std.specs.Prelude.{replicate};
+ghost use Rattle.std.specs.Prelude.{◌≡◌, replicate};
 ghost use Rattle.model.specs.Rules.Sizes.{disk_words};
 ghost use Rattle.bench_state.specs.Begun.{Begun};
 ghost use Rattle.bench_run.specs.Whole.{AllRead, Whole};
@@ -26,9 +26,10 @@ pub struct Done {
 
 // Reads to the input's end, or to the last line that is read, and writes the answers piece by piece. A proved loop has to
 // end, so it counts pieces up to a number that no input uses up.
-fn read_all(stdin: Stdin, run: &mut Run, out: &mut [u8; 212262]) -> Done
-    requires { Begun (replicate disk_words 0) run.old }
-    ensures { AllRead 4096 run.new result }
+fn read_all(stdin: Stdin, run: &mut Run, disk: &mut [u32], out: &mut [u8; 212262]) -> Done
+    requires begun { Begun run.old }
+    requires disk_value { disk.old ≡ replicate disk_words 0 }
+    ensures { AllRead 4096 run.new disk.new result }
 {
     let mut input = [0u8; 4096];
     let mut read = Read::none();
@@ -36,7 +37,7 @@ fn read_all(stdin: Stdin, run: &mut Run, out: &mut [u8; 212262]) -> Done
     for pieces in 0..u64::MAX {
         let n = read.piece(stdin, &mut input);
         let piece = &input[..n];
-        let end = run_piece(piece, run, out);
+        let end = run_piece(piece, run, disk, out);
         written.piece(&out[..end]);
         if !reads_on(piece, run) {
             return Done { read, written };
@@ -50,10 +51,11 @@ fn read_all(stdin: Stdin, run: &mut Run, out: &mut [u8; 212262]) -> Done
 pub fn main_loop(stdin: Stdin) -> Done
     ensures { Whole 4096 result }
 {
-    let mut run = Run::new([0u32; 386]);
+    let mut run = Run::new();
+    let mut disk = [0u32; 386];
     let mut out = [0u8; 212262];
-    let mut done = read_all(stdin, &mut run, &mut out);
-    let last = last_line(&mut run, &mut out);
+    let mut done = read_all(stdin, &mut run, &mut disk, &mut out);
+    let last = last_line(&mut run, &mut disk, &mut out);
     done.written.piece(&out[..last]);
     done
 }

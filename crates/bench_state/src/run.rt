@@ -5,11 +5,10 @@ ghost use Rattle.bench_state.specs.Keep.{NoNewline, kept};
 
 use model_types::memory::Memory;
 
-// The memory, the disk, the next line's number, and the bytes of a line that hasn't ended: the first len of line.
-#[derive(Drop)]
+// The memory, the next line's number, and the bytes of a line that hasn't ended: the first len of line.
+#[derive(Clone, Copy)]
 pub struct Run {
     pub memory: Memory,
-    pub disk: [u32; 386],
     pub number: u32,
     pub line: [u8; 66],
     pub len: usize,
@@ -24,12 +23,11 @@ impl Run {
     ghost use Rattle.bench_state.specs.Begun.{Begun};
 
     // Before the first line.
-    pub fn new(disk: [u32; 386]) -> Run
-        ensures { Begun disk result }
+    pub fn new() -> Run
+        ensures { Begun result }
     {
         Run {
             memory: Memory::zero(),
-            disk,
             number: 1,
             line: [0; 66],
             len: 0,

@@ -1,6 +1,6 @@
-// Each call as a function of its own, so that `make speed` can measure what it takes of the stack (docs/SPEED.md): a call that is
-// made in two places isn't put into its caller, so each is made in two. The bytes of standard input say which call is made, its
-// slot, and its number of blocks, or its block.
+// Each call in a function of its own, so that `make speed` can measure what it takes of the stack (docs/SPEED.md): one that the
+// compiler may not put into its caller. The bytes of standard input say which call is made, its slot, and its number of blocks, or
+// its block.
 #![tactic(auto)]
 
 mod made;

@@ -1,11 +1,11 @@
 // What a `status` line prints behind its answer line: the counts of status.
 #![tactic(auto)]
 
-ghost use Rattle.std.specs.Prelude.{Some, OnOk, ◌++◌, ◌∷◌, []};
+ghost use Rattle.std.specs.Prelude.{Some, OnOk, OnErr, ◌≡◌, ◌++◌, ◌∷◌, []};
 ghost use Rattle.printing.specs.Waits.{Puts};
 ghost use Rattle.inspect_counts.specs.Shown.{counts_text};
 
-use model_types::answer::Counts;
+use model_types::answer::{Answer, Counts};
 use printing::Output;
 use std::fmt;
 use std::fmt::Write;
@@ -38,4 +38,15 @@ pub fn put_counts(out: &mut Output, counts: Counts) -> fmt::Result
 {
     let shown = Shown(counts);
     writeln!(out, "{shown}")
+}
+
+// Puts the counts that were answered, and nothing of a refusal.
+pub fn put_answered(out: &mut Output, answer: Answer<Counts>)
+    ensures { OnErr answer (out.new ≡ out.old) }
+{
+    let Ok(counts) = answer else {
+        return;
+    };
+    // Putting text never fails: what can't be written is lost.
+    let _ = put_counts(out, counts);
 }

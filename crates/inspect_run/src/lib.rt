@@ -9,26 +9,23 @@ use inspect_lines::Lines;
 use inspect_state::fixture::Fixture;
 use line::answer;
 use printing::Output;
-use std::fmt;
 use std::rt::Stdin;
 
 // Answers the lines of the input.
-fn answer_all(stdin: Stdin, out: &mut Output) -> fmt::Result {
+fn answer_all(stdin: Stdin, out: &mut Output) {
     let mut fixture = Fixture::new();
     let mut lines = Lines::new(stdin);
     for number in 1..=MAX_LINES {
         let Some(line) = lines.next_line() else {
             break;
         };
-        answer(line, number, &mut fixture, out)?;
+        answer(line, number, &mut fixture, out);
     }
-    Ok(())
 }
 
 // The whole program.
 pub fn main_loop(stdin: Stdin) {
     let mut out = Output::new();
-    // Putting text never fails: what can't be written is lost.
-    let _ = answer_all(stdin, &mut out);
+    answer_all(stdin, &mut out);
     out.flush();
 }

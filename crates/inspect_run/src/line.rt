@@ -1,6 +1,6 @@
 // One line of input to its answer line.
 use inspect_call::call;
-use inspect_counts::put_counts;
+use inspect_counts::put_answered;
 use inspect_further::alter;
 use inspect_show::put_fixture;
 use inspect_state::fixture::Fixture;
@@ -8,7 +8,6 @@ use model_types::answer::number;
 use model_types::error::Error;
 use printing::Output;
 use status::status;
-use std::fmt;
 
 // A bench line is a call, and any other a further line.
 fn step(line: &[u8], fixture: &mut Fixture) -> Result<u32, Error> {
@@ -29,34 +28,23 @@ fn put_answer(out: &mut Output, call: u32, answer: Result<u32, Error>) {
 }
 
 // Answers a `status` line: as the bench line of status, and all counts behind it.
-fn answer_status(number: u32, fixture: &Fixture, out: &mut Output) -> fmt::Result {
+fn answer_status(number: u32, fixture: &Fixture, out: &mut Output) {
     let answer = status(&fixture.memory);
     put_answer(out, number, answer.map(|counts| counts.allocated));
-    match answer {
-        Ok(counts) => put_counts(out, counts),
-        Err(_) => Ok(()),
-    }
+    put_answered(out, answer);
 }
 
 // Answers a `show` line: as done, and the whole fixture behind it.
-fn answer_show(number: u32, fixture: &Fixture, out: &mut Output) -> fmt::Result {
+fn answer_show(number: u32, fixture: &Fixture, out: &mut Output) {
     put_answer(out, number, Ok(0));
-    put_fixture(out, fixture)
+    put_fixture(out, fixture);
 }
 
 // Answers a line.
-pub(crate) fn answer(
-    line: &[u8],
-    number: u32,
-    fixture: &mut Fixture,
-    out: &mut Output,
-) -> fmt::Result {
+pub(crate) fn answer(line: &[u8], number: u32, fixture: &mut Fixture, out: &mut Output) {
     match line {
         b"status" => answer_status(number, fixture, out),
         b"show" => answer_show(number, fixture, out),
-        _ => {
-            put_answer(out, number, step(line, fixture));
-            Ok(())
-        }
+        _ => put_answer(out, number, step(line, fixture)),
     }
 }

@@ -49,8 +49,8 @@ fn put_memory(out: &mut Output, memory: &Memory) -> fmt::Result {
     put_slots(out, memory)
 }
 
-// The whole fixture: the memory, and what is lent of the disk and of the list.
-pub fn put_fixture(out: &mut Output, fixture: &Fixture) -> fmt::Result {
+// The parts of a fixture.
+fn put_parts(out: &mut Output, fixture: &Fixture) -> fmt::Result {
     let disk = fixture.disk.as_slice();
     let list = fixture.list.as_slice();
     put_memory(out, &fixture.memory)?;
@@ -58,4 +58,10 @@ pub fn put_fixture(out: &mut Output, fixture: &Fixture) -> fmt::Result {
     put_words(out, disk)?;
     write!(out, "list length={}", list.len())?;
     put_list(out, list)
+}
+
+// The whole fixture: the memory, and what is lent of the disk and of the list.
+pub fn put_fixture(out: &mut Output, fixture: &Fixture) {
+    // Putting text never fails: what can't be written is lost.
+    let _ = put_parts(out, fixture);
 }

@@ -1,28 +1,21 @@
 // Words of which the first are lent to the calls.
-ghost use Rattle.std.specs.Prelude.{◌≡◌, ◌≤◌, ◌<◌, ◌++◌, ◌-◌, ◌↔◌, ℕ, List, take, length, min, replicate, IsSome, IfNone, OnSome, slice_set};
+ghost use Rattle.std.specs.Prelude.{◌≡◌, ◌≤◌, ◌<◌, ◌++◌, ◌-◌, ◌↔◌, take, length, min, replicate, IsSome, IfNone, OnSome, slice_set};
 
-use std::marker::Model;
-
-// N words, and how many of them are lent.
-#[derive(Drop)]
+// N words, and how many of them are lent. A contract sees those that are lent. No impl Model says so, since one that forgets the others
+// can't be Copy.
+#[derive(Clone, Copy)]
 pub struct Lent<const N: usize> {
     words: [u32; N],
     len: usize,
-}
-
-// For a contract, the words that are lent.
-impl<const N: usize> Model for Lent<N> {
-    ghost Value = { List ℕ };
-
-    ghost view = { λ lent. take lent.len lent.words };
-
-    ghost invariant = { λ lent. lent.len ≤ N };
+    ghost within: { len ≤ N },
 }
 
 impl<const N: usize> Lent<N> {
+    ghost use Rattle.inspect_state.specs.Lent.{words_lent};
+
     // Zeros, of which so many are lent, but no more than there are.
     pub fn zeros(len: usize) -> Lent<N>
-        ensures { result ≡ replicate (min len N) 0 }
+        ensures { words_lent result ≡ replicate (min len N) 0 }
     {
         Lent {
             words: [0; N],
@@ -32,14 +25,14 @@ impl<const N: usize> Lent<N> {
 
     // The words lent.
     pub fn as_slice(&self) -> &[u32]
-        ensures { result.now ≡ self.now }
+        ensures { result.now ≡ words_lent self.now }
     {
         &self.words[..self.len]
     }
 
     // The words lent, to be written.
     pub fn as_mut_slice(&mut self) -> &mut [u32]
-        ensures { result.now ≡ self.old }
+        ensures { result.now ≡ words_lent self.old }
     {
         // In steps: the borrow checker lends no part of a field that is an array.
         let len = self.len;
@@ -50,9 +43,9 @@ impl<const N: usize> Lent<N> {
 
     // Word I becomes V, if it is lent.
     pub fn set_word(&mut self, index: usize, word: u32) -> Option<()>
-        ensures in_range { IsSome result ↔ (index < length self.old) }
-        ensures set { OnSome result (self.new ≡ slice_set self.old index word) }
-        ensures kept { IfNone result (self.new ≡ self.old) }
+        ensures in_range { IsSome result ↔ (index < length (words_lent self.old)) }
+        ensures set { OnSome result (words_lent self.new ≡ slice_set (words_lent self.old) index word) }
+        ensures kept { IfNone result (words_lent self.new ≡ words_lent self.old) }
     {
         if self.len <= index {
             return None;
@@ -64,8 +57,8 @@ impl<const N: usize> Lent<N> {
     // The first words are lent from now on, so many, if there are.
     pub fn set_len(&mut self, len: usize) -> Option<()>
         ensures in_range { IsSome result ↔ (len ≤ N) }
-        ensures length { OnSome result (length self.new ≡ len) }
-        ensures kept { IfNone result (self.new ≡ self.old) }
+        ensures length { OnSome result (length (words_lent self.new) ≡ len) }
+        ensures kept { IfNone result (words_lent self.new ≡ words_lent self.old) }
     {
         if N < len {
             return None;
@@ -77,8 +70,8 @@ impl<const N: usize> Lent<N> {
     // The same, and words added are 0.
     pub fn resize(&mut self, new_len: usize) -> Option<()>
         ensures in_range { IsSome result ↔ (new_len ≤ N) }
-        ensures words { OnSome result (self.new ≡ take new_len self.old ++ replicate (new_len - length self.old) 0) }
-        ensures kept { IfNone result (self.new ≡ self.old) }
+        ensures words { OnSome result (words_lent self.new ≡ take new_len (words_lent self.old) ++ replicate (new_len - length (words_lent self.old)) 0) }
+        ensures kept { IfNone result (words_lent self.new ≡ words_lent self.old) }
     {
         if N < new_len {
             return None;

@@ -1,5 +1,6 @@
 // The causes of refusal of document 01's table, and of the jobs of document 02 that have landed, each with its number there.
-ghost use Rattle.model_types.specs.Errors.{IsCode};
+ghost use Rattle.std.specs.Prelude.{◌≡◌};
+ghost use Rattle.model_types.specs.Errors.{IsCode, code};
 
 #[derive(Clone, Copy, Debug, PartialEq, Eq, Hash)]
 pub enum Error {
@@ -60,5 +61,14 @@ impl From<Error> for u32 {
             Error::OverReserved => 23,
             Error::ReservedForOthers => 24,
         }
+    }
+}
+
+impl Error {
+    // The same number.
+    pub fn code(self) -> u32
+        ensures { result ≡ code self }
+    {
+        self.into()
     }
 }

@@ -9,6 +9,7 @@ ghost use Rattle.model_types.specs.Memory.{
   slot_of,
   no_reserve,
   reserve_of,
+  with_pending,
   is_active,
   is_precommitted,
 };
@@ -146,6 +147,22 @@ impl Memory {
         ensures { result ≡ zero_memory }
     {
         Memory::quiet(0, Bitmap::EMPTY, Pending::Nothing)
+    }
+
+    // The same memory with another pending work.
+    pub fn with_pending(self, pending: Pending) -> Memory
+        ensures { result ≡ with_pending self pending }
+    {
+        let Memory {
+            blocks,
+            cursor,
+            sam,
+            com,
+            slots,
+            reserves,
+            ..
+        } = self;
+        Memory::new(blocks, cursor, sam, com, slots, reserves, pending)
     }
 }
 

@@ -1,2 +1,3 @@
 -- What the contracts of this crate cite beside model's definitions.
 pub mod Few
+pub mod Sums

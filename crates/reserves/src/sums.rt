@@ -2,6 +2,7 @@
 ghost use Rattle.std.specs.Prelude.{◌≡◌, ◌-◌, ◌<◌, ltb};
 ghost use Rattle.bitmap.specs.Sizes.{slot_count};
 ghost use Rattle.model.specs.Rules.Reserves.{total_reserved, others_reserved};
+ghost use Rattle.reserves.specs.Sums.{any_drawn};
 
 use model_types::memory::Reserve;
 
@@ -30,4 +31,12 @@ pub fn leaves_fewer(available: u32, count: u32, sum: u64) -> bool
     ensures { result ≡ ltb (available - count) sum }
 {
     u64::from(available.saturating_sub(count)) < sum
+}
+
+// Whether any slot has drawn on its reservation.
+#[tactic(auto, unfolding(crate::specs::Sums::any_drawn))]
+pub fn any_drawn(reserves: &[Reserve; 8]) -> bool
+    ensures { result ≡ any_drawn reserves.now }
+{
+    reserves.iter().any(|reserve| 0 < reserve.drawn)
 }

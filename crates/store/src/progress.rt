@@ -71,11 +71,12 @@ pub fn advance(memory: &mut Memory) -> u32
     ensures gives { result ≡ still_due memory.old.pending }
     ensures leaves { memory.new ≡ advanced memory.old memory.old.pending }
 {
-    let due = still_due(memory.pending);
+    let pending = memory.pending;
+    let due = still_due(pending);
     if due == 0 {
         finish(memory);
     } else {
-        memory.pending = one_more_done(memory.pending);
+        memory.pending = one_more_done(pending);
     }
     due
 }

@@ -24,10 +24,10 @@ fn put_again(out: &mut Output, mut disk: [u32; 386], stores: u32) -> fmt::Result
     let memory = opened.memory;
     let due = opened.answer.unwrap_or(0);
     write!(out, " again={stores} due={due}")?;
-    put_runs(out, &memory.sam.words)?;
+    put_runs(out, &memory.sam.words);
     make_stores(memory, &mut disk, due);
     write!(out, " disk")?;
-    put_runs(out, &disk[BITMAP..LOG])?;
+    put_runs(out, &disk[BITMAP..LOG]);
     writeln!(out)
 }
 
@@ -52,7 +52,7 @@ fn put_crash(out: &mut Output, disk: [u32; 386], stores: u32) -> fmt::Result {
     let memory = opened.memory;
     let due = opened.answer.unwrap_or(0);
     write!(out, "stores={stores} due={due}")?;
-    put_runs(out, &memory.sam.words)?;
+    put_runs(out, &memory.sam.words);
     writeln!(out)?;
     put_recovery(out, disk, memory, due)
 }

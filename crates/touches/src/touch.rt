@@ -22,8 +22,10 @@ pub fn take_touched(left: &mut [u32; 128], sam: &[u32; 128], tam: &[u32; 128]) -
     // No zip: behind an adapter of iter_mut a proof knows nothing of the words.
     for k in 0..Bitmap::WORDS {
         let touched = tam[k] ^ sam[k];
-        wrong |= touched & !left[k];
-        left[k] ^= touched;
+        let rest = left[k] ^ touched;
+        // A block that wasn't left is in the rest now.
+        wrong |= touched & rest;
+        left[k] = rest;
     }
     wrong == 0
 }

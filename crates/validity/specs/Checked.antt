@@ -20,6 +20,10 @@ volume_valid memory =
 abbrev pub bare : Memory → Memory
 bare memory = with_reserves (with_pending memory Nothing) no_reserves
 
--- the available blocks where anything is reserved
+-- the available blocks where so much is reserved, counted only if anything is
+abbrev pub available_for : ℕ → Memory → Option ℕ
+available_for reserved memory = cond (eqb reserved 0) None (Some (length (available memory)))
+
+-- and by what is reserved in the memory
 abbrev pub counted_for : Memory → Option ℕ
-counted_for memory = cond (eqb (total_reserved memory.reserves) 0) None (Some (length (available memory)))
+counted_for memory = available_for (total_reserved memory.reserves) memory

@@ -11,8 +11,7 @@ ghost use Rattle.model_types.specs.Shape.{HasShape};
 
 use bitops::compare::is_empty;
 use bits::volume_valid;
-use counting::count_available;
-use fit::drawn_fit;
+use fit::{available_for, drawn_fit};
 use model_types::answer::Answer;
 use model_types::error::Error;
 use model_types::memory::Memory;
@@ -21,17 +20,17 @@ use reserves::sums::total;
 use shape::shaped;
 use touches::touch::{differences, take_touched};
 
-mod bits;
-mod fit;
-mod pending;
+pub mod bits;
+pub mod fit;
+pub mod pending;
 mod shape;
 
 // Whether the bitmaps are those of a valid memory, whatever is reserved and pending. No slot's bitmap is looked at for bits from
 // the block count on: they would be touches that aren't left.
-fn maps_valid(memory: &Memory) -> bool
-    requires { HasShape memory.now }
+pub fn maps_valid(memory: &Memory) -> bool
     ensures { result ≡ valid (bare memory.now) }
 {
+    shaped(memory);
     if !volume_valid(memory) {
         return false;
     }
@@ -52,7 +51,7 @@ fn maps_valid(memory: &Memory) -> bool
 }
 
 // Cause 1: whether the memory is valid. If so, the available blocks where anything is reserved, which were counted for that.
-#[tactic(auto, using(crate::proofs::Laws::Slots::few_blocks, crate::proofs::Laws::Checked::refused, crate::proofs::Laws::Checked::over_reserved, crate::proofs::Laws::Checked::accepted), unfolding(model::specs::Rules::Available::available))]
+#[tactic(auto, using(crate::proofs::Laws::Slots::few_blocks, crate::proofs::Laws::Checked::refused, crate::proofs::Laws::Checked::over_reserved, crate::proofs::Laws::Checked::accepted))]
 pub fn check(memory: &Memory) -> Answer<Option<u32>>
     ensures answers { result ≡ answer (status_error memory.now) (counted_for memory.now) }
     ensures shape { HasShape memory.now }
@@ -62,10 +61,9 @@ pub fn check(memory: &Memory) -> Answer<Option<u32>>
         return Err(Error::MemoryInvalid);
     }
     let reserved = total(&memory.reserves);
-    if reserved == 0 {
+    let Some(available) = available_for(reserved, memory) else {
         return Ok(None);
-    }
-    let available = count_available(&memory.sam.words, &memory.com.words, memory.blocks);
+    };
     if u64::from(available) < reserved {
         return Err(Error::MemoryInvalid);
     }

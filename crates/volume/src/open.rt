@@ -57,20 +57,24 @@ pub fn open(disk: &[u32]) -> Opened
     ensures answers { result.answer ≡ open_answer disk.now }
     ensures gives { result.memory ≡ open_memory disk.now }
 {
-    match tested(disk) {
+    // The memory is made once, of these: made in an arm it would be copied.
+    let (answer, blocks, sam, pending) = match tested(disk) {
         Ok(words) => {
             let entries = words[LENGTH_AT];
             let sam = Bitmap {
                 words: replay(words),
             };
-            Opened {
-                answer: Ok(recovery_due(entries)),
-                memory: Memory::quiet(words[BLOCKS_AT], sam, recovery(entries)),
-            }
+            (
+                Ok(recovery_due(entries)),
+                words[BLOCKS_AT],
+                sam,
+                recovery(entries),
+            )
         }
-        Err(error) => Opened {
-            answer: Err(error),
-            memory: Memory::zero(),
-        },
+        Err(error) => (Err(error), 0, Bitmap::EMPTY, Pending::Nothing),
+    };
+    Opened {
+        answer,
+        memory: Memory::quiet(blocks, sam, pending),
     }
 }

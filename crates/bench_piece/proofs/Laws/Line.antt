@@ -58,43 +58,43 @@ module _ (run : Run) (room : length run.line ≡ kept_room) where
   line-length : length (take (run.len + 1) (set run.line run.len newline)) ≡ run.len + 1
   line-length = length-take-le (run.len + 1) (set run.line run.len newline) (rw (length-set run.line run.len newline) (omega (arith, line-inside)))
 
-  module _ {out : List ℕ} {after : Lines} {memory-after : Memory} {disk-after out-after : List ℕ}
-      (answered : Answered (take (run.len + 1) (set run.line run.len newline)) run.number run.memory run.disk out 0 after memory-after disk-after out-after) where
-    pub line_leads : Leads (run_state [] run) (newline ∷ []) (state_of (take after.at out-after) [] after.number memory-after disk-after)
+  module _ {disk out : List ℕ} {after : Lines} {memory-after : Memory} {disk-after out-after : List ℕ}
+      (answered : Answered (take (run.len + 1) (set run.line run.len newline)) run.number run.memory disk out 0 after memory-after disk-after out-after) where
+    pub line_leads : Leads (run_state [] run disk) (newline ∷ []) (state_of (take after.at out-after) [] after.number memory-after disk-after)
     line_leads =
         let first = take run.len run.line in
-        let whole = subst (λ (bytes : List ℕ). Answered bytes run.number run.memory run.disk out 0 after memory-after disk-after out-after) line-bytes answered in
+        let whole = subst (λ (bytes : List ℕ). Answered bytes run.number run.memory disk out 0 after memory-after disk-after out-after) line-bytes answered in
         leads-none (take after.at out-after) after.number memory-after disk-after (drop after.rest (first ++ (newline ∷ [])))
         (λ read. none-behind first after.rest (whole.unended read))
-        (leads-after first (newline ∷ []) (leads-bytes [] run.number run.memory run.disk [] first run.unended) whole.leads)
+        (leads-after first (newline ∷ []) (leads-bytes [] run.number run.memory disk [] first run.unended) whole.leads)
 
     pub line_room : after.at ≤ max_answer * kept_room
     line_room = omega (arith, answered.room, answered.lines, answered.within, line-length, run.few)
 
 -- at the input's end: with no byte kept all is printed, and a line that is kept is answered as if byte 10 ended it
-module _ (run : Run) where
-  last_none : run.len ≡ 0 → all_of (run_state [] run) [] ≡ []
+module _ (run : Run) (disk : List ℕ) where
+  last_none : run.len ≡ 0 → all_of (run_state [] run disk) [] ≡ []
   unfolding all_of
-  last_none e = ap (λ (n : ℕ). output_of (take n run.line) run.number (bench_of run.memory run.disk 0 0) []) e ∙ output-none run.number (bench_of run.memory run.disk 0 0)
+  last_none e = ap (λ (n : ℕ). output_of (take n run.line) run.number (bench_of run.memory disk 0 0) []) e ∙ output-none run.number (bench_of run.memory disk 0 0)
 
-  last_line : {after : Run} {end : ℕ} {out : List ℕ} → 0 < length (take run.len run.line) → LineEnded (run_state [] run) after end out
-      → all_of (run_state [] run) [] ≡ take end out
+  last_line : {after : Run} {disk-after : List ℕ} {end : ℕ} {out : List ℕ} → 0 < length (take run.len run.line) → LineEnded (run_state [] run disk) after disk-after end out
+      → all_of (run_state [] run disk) [] ≡ take end out
   unfolding all_of
-  last_line {after} {end} {out} h ended =
-      let bench = bench_of after.memory after.disk 0 0 in
-      output-last (take run.len run.line) run.number (bench_of run.memory run.disk 0 0) h
+  last_line {after} {disk-after} {end} {out} h ended =
+      let bench = bench_of after.memory disk-after 0 0 in
+      output-last (take run.len run.line) run.number (bench_of run.memory disk 0 0) h
       ∙ ended.leads.same []
       ∙ ap (λ (n : ℕ). take end out ++ output_of (take n after.line) after.number bench []) ended.none_kept
       ∙ ap (λ (l : List ℕ). take end out ++ l) (output-none after.number bench)
       ∙ append-nil (take end out)
 
   -- so this is all that is printed, and the output holds it
-  pub last-ends : (out : List ℕ) → run.len ≡ 0 → LastLine (run_state [] run) 0 out
+  pub last-ends : (out : List ℕ) → run.len ≡ 0 → LastLine (run_state [] run disk) 0 out
   last-ends out e = record { same = last_none e; within = omega arith }
 
-  pub last-answered : {after : Run} {end : ℕ} {out : List ℕ} → length run.line ≡ kept_room → LineEnded (run_state [] run) after end out
+  pub last-answered : {after : Run} {disk-after : List ℕ} {end : ℕ} {out : List ℕ} → length run.line ≡ kept_room → LineEnded (run_state [] run disk) after disk-after end out
       → (run.len ≡ 0 → ⊥) → max_answer * kept_room ≤ length out
-      → LastLine (run_state [] run) end out
+      → LastLine (run_state [] run disk) end out
   last-answered room ended some fits = record {
     same = last_line (rw (length-take-le run.len run.line (omega (arith, line-inside run room))) (pos_of_ne-zero some)) ended;
     within = omega (arith, ended.room, fits);

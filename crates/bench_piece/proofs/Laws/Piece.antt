@@ -33,42 +33,42 @@ module _ (run : Run) {input : List ℕ} {next : ℕ} (end : EndAt input 0 next) 
   pub first-unended : run.number ≤ max_lines → NoEnd (take len line_after)
   first-unended read = none_kept keeps (run.unended read) none
 
-  first-leads : Leads (run_state [] run) (take next input) (state_of [] (take len line_after) run.number run.memory run.disk)
-  first-leads =
-      leads-kept [] run.number run.memory run.disk (take run.len run.line ++ take next input) (take len line_after) keeps.same
-      (leads-bytes [] run.number run.memory run.disk (take run.len run.line) (take next input) (λ read. none))
+  first-leads : (disk : List ℕ) → Leads (run_state [] run disk) (take next input) (state_of [] (take len line_after) run.number run.memory disk)
+  first-leads disk =
+      leads-kept [] run.number run.memory disk (take run.len run.line ++ take next input) (take len line_after) keeps.same
+      (leads-bytes [] run.number run.memory disk (take run.len run.line) (take next input) (λ read. none))
 
   -- with no byte 10 they are all
-  pub all-leads : next ≡ length input → Leads (run_state [] run) input (state_of [] (take len line_after) run.number run.memory run.disk)
-  all-leads e =
-      subst (λ (bytes : List ℕ). Leads (run_state [] run) bytes (state_of [] (take len line_after) run.number run.memory run.disk))
-      (ap (λ (n : ℕ). take n input) e ∙ take-length input) first-leads
+  pub all-leads : {disk : List ℕ} → next ≡ length input → Leads (run_state [] run disk) input (state_of [] (take len line_after) run.number run.memory disk)
+  all-leads {disk} e =
+      subst (λ (bytes : List ℕ). Leads (run_state [] run disk) bytes (state_of [] (take len line_after) run.number run.memory disk))
+      (ap (λ (n : ℕ). take n input) e ∙ take-length input) (first-leads disk)
 
   -- else the line is answered, and the other lines follow
-  pub then-leads : {first last : State} → next < length input
-      → Leads (state_of [] (take len line_after) run.number run.memory run.disk) (newline ∷ []) first
+  pub then-leads : {disk : List ℕ} {first last : State} → next < length input
+      → Leads (state_of [] (take len line_after) run.number run.memory disk) (newline ∷ []) first
       → Leads first (take (length input - (next + 1)) (drop (next + 1) input)) last
-      → Leads (run_state [] run) input last
-  then-leads {last = last_state} inside ended rest =
+      → Leads (run_state [] run disk) input last
+  then-leads {disk} {last = last_state} inside ended rest =
       let first = take next input in
       let last = take (length input - (next + 1)) (drop (next + 1) input) in
       let e : input ≡ (first ++ (newline ∷ [])) ++ last =
       sym (take-append-drop next input)
       ∙ ap (λ (l : List ℕ). first ++ l) (end_rest input 0 next end inside ∙ ap (λ (l : List ℕ). newline ∷ l) (sym (part-rest input (next + 1))))
       ∙ sym (append_assoc first (newline ∷ []) last) in
-      subst (λ (bytes : List ℕ). Leads (run_state [] run) bytes last_state) (sym e)
-      (leads-then (first ++ (newline ∷ [])) last (leads-then first (newline ∷ []) first-leads ended) rest)
+      subst (λ (bytes : List ℕ). Leads (run_state [] run disk) bytes last_state) (sym e)
+      (leads-then (first ++ (newline ∷ [])) last (leads-then first (newline ∷ []) (first-leads disk) ended) rest)
 
 -- the lines behind the first, with what follows the last of them kept
-module _ (run : Run) (empty : run.len ≡ 0) {input out : List ℕ} {at : ℕ} {lines : Lines} {memory-after : Memory} {disk-after out-after : List ℕ} {line_after : List ℕ} {len : ℕ}
-    (answered : Answered input run.number run.memory run.disk out at lines memory-after disk-after out-after)
+module _ (run : Run) (empty : run.len ≡ 0) {input disk out : List ℕ} {at : ℕ} {lines : Lines} {memory-after : Memory} {disk-after out-after : List ℕ} {line_after : List ℕ} {len : ℕ}
+    (answered : Answered input run.number run.memory disk out at lines memory-after disk-after out-after)
     (keeps : Keeps (take (length input - lines.rest) (drop lines.rest input)) run.line 0 line_after len) where
   pub rest-unended : lines.number ≤ max_lines → NoEnd (take len line_after)
   rest-unended read = none_kept keeps (λ i h e. omega arith) (subst NoEnd (sym (part-rest input lines.rest)) (answered.unended read))
 
-  pub rest_leads : Leads (run_state (take at out) run) input (state_of (take lines.at out-after) (take len line_after) lines.number memory-after disk-after)
+  pub rest_leads : Leads (run_state (take at out) run disk) input (state_of (take lines.at out-after) (take len line_after) lines.number memory-after disk-after)
   rest_leads =
-      subst (λ (n : ℕ). Leads (state_of (take at out) (take n run.line) run.number run.memory run.disk) input (state_of (take lines.at out-after) (take len line_after) lines.number memory-after disk-after))
+      subst (λ (n : ℕ). Leads (state_of (take at out) (take n run.line) run.number run.memory disk) input (state_of (take lines.at out-after) (take len line_after) lines.number memory-after disk-after))
       (sym empty)
       (leads-kept (take lines.at out-after) lines.number memory-after disk-after (drop lines.rest input) (take len line_after)
       (keeps.same ∙ ap (take kept) (part-rest input lines.rest)) answered.leads)

@@ -57,22 +57,22 @@ reached-past {bytes} {written} {s} reached past more =
     ∙ ap bench_output (append-nil bytes)
 
 -- between two pieces, after so many of them: what was read and written so far. Each had a byte, and 4,096 at most
-pub record Reading (run : Run) (in-account : Read) (out-account : Written) (pieces : ℕ) : Type 0 where
+pub record Reading (run : Run) (disk : List ℕ) (in-account : Read) (out-account : Written) (pieces : ℕ) : Type 0 where
   pub bytes : List ℕ
   pub written : List ℕ
-  pub reached : Reached bytes written (run_state [] run)
+  pub reached : Reached bytes written (run_state [] run disk)
   pub taken : in-account.count ≡ length bytes
   pub counted : out-account.count ≡ length written
   pub answers : out-account.count + max_answer ≤ max_answer * run.number
   pub some : pieces ≤ in-account.count
   pub few : in-account.count ≤ 4096 * pieces
 
-pub reading-start : {run : Run} {in-account : Read} {out-account : Written} → Begun (replicate disk_words 0) run → in-account.count ≡ 0 → out-account.count ≡ 0
-    → Reading run in-account out-account 0
-reading-start {run} begun r w = record {
+pub reading-start : {run : Run} {disk : List ℕ} {in-account : Read} {out-account : Written} → Begun run → disk ≡ replicate disk_words 0 → in-account.count ≡ 0 → out-account.count ≡ 0
+    → Reading run disk in-account out-account 0
+reading-start begun zeros r w = record {
   bytes = [];
   written = [];
-  reached = rw (begun.len, begun.number, begun.memory, begun.disk) reached-none;
+  reached = rw (begun.len, begun.number, begun.memory, zeros) reached-none;
   taken = r;
   counted = w;
   answers = omega (arith, w, begun.number);
@@ -81,11 +81,12 @@ reading-start {run} begun r w = record {
 }
 
 -- one piece more, of n bytes
-module _ {run : Run} {in-account : Read} {out-account : Written} {pieces : ℕ} (reading : Reading run in-account out-account pieces)
-    (input : List ℕ) (n : ℕ) (inside : n ≤ length input) {after : Run} {end : ℕ} {out : List ℕ} (ran : PieceRun (run_state [] run) (take n input) after end out)
+module _ {run : Run} {disk : List ℕ} {in-account : Read} {out-account : Written} {pieces : ℕ} (reading : Reading run disk in-account out-account pieces)
+    (input : List ℕ) (n : ℕ) (inside : n ≤ length input) {after : Run} {disk-after : List ℕ} {end : ℕ} {out : List ℕ}
+    (ran : PieceRun (run_state [] run disk) (take n input) after disk-after end out)
     {in_after : Read} (last : in_after.last ≡ n) (takes : in_after.count ≡ in-account.count + n)
     {out-after : Written} (writes : out-after.count ≡ out-account.count + length (take end out)) where
-  reached-after : Reached (reading.bytes ++ take n input) (reading.written ++ take end out) (run_state [] after)
+  reached-after : Reached (reading.bytes ++ take n input) (reading.written ++ take end out) (run_state [] after disk-after)
   reached-after = reached-piece (take n input) (take end out) reading.reached ran.leads
 
   taken_after : in_after.count ≡ length (reading.bytes ++ take n input)
@@ -98,7 +99,7 @@ module _ {run : Run} {in-account : Read} {out-account : Written} {pieces : ℕ} 
   answers-after = omega (arith, writes, reading.answers, ran.answers, length-take-le end out ran.within)
 
   -- with more to read
-  pub reading-more : (ltb 0 (length (take n input)) && leb after.number max_lines) ≡ true → n ≤ 4096 → Reading after in_after out-after (pieces + 1)
+  pub reading-more : (ltb 0 (length (take n input)) && leb after.number max_lines) ≡ true → n ≤ 4096 → Reading after disk-after in_after out-after (pieces + 1)
   reading-more on most = record {
     bytes = reading.bytes ++ take n input;
     written = reading.written ++ take end out;
@@ -111,7 +112,7 @@ module _ {run : Run} {in-account : Read} {out-account : Written} {pieces : ℕ} 
   }
 
   -- or not
-  pub reading-done : (ltb 0 (length (take n input)) && leb after.number max_lines) ≡ false → AllRead 4096 after (record { read = in_after; written = out-after })
+  pub reading-done : (ltb 0 (length (take n input)) && leb after.number max_lines) ≡ false → AllRead 4096 after disk-after (record { read = in_after; written = out-after })
   reading-done over = record {
     bytes = reading.bytes ++ take n input;
     written = reading.written ++ take end out;
@@ -127,8 +128,8 @@ module _ {run : Run} {in-account : Read} {out-account : Written} {pieces : ℕ} 
       go false e = Stopped.input_ended (omega (arith, last, length-take-le n input inside, ltb-false 0 (length (take n input)) e))
 
 -- the number of pieces is used up
-pub reading-ends : {run : Run} {in-account : Read} {out-account : Written} {pieces : ℕ} → Reading run in-account out-account pieces → 2 ^ 64 - 1 ≤ pieces
-    → AllRead 4096 run (record { read = in-account; written = out-account })
+pub reading-ends : {run : Run} {disk : List ℕ} {in-account : Read} {out-account : Written} {pieces : ℕ} → Reading run disk in-account out-account pieces → 2 ^ 64 - 1 ≤ pieces
+    → AllRead 4096 run disk (record { read = in-account; written = out-account })
 reading-ends {run} reading all = record {
   bytes = reading.bytes;
   written = reading.written;
@@ -140,8 +141,8 @@ reading-ends {run} reading all = record {
 }
 
 -- the last line's answer is written too
-pub whole : {run : Run} {done : Done} {end : ℕ} {out : List ℕ} {out-after : Written} → AllRead 4096 run done
-    → LastLine (run_state [] run) end out
+pub whole : {run : Run} {disk : List ℕ} {done : Done} {end : ℕ} {out : List ℕ} {out-after : Written} → AllRead 4096 run disk done
+    → LastLine (run_state [] run disk) end out
     → out-after.count ≡ done.written.count + length (take end out)
     → Whole 4096 (record { read = done.read; written = out-after })
 whole {end = end} {out} all last writes = record {

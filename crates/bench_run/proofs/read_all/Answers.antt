@@ -4,7 +4,7 @@ use Rattle.bench_run.proofs.Laws.Whole.{reading-start, reading-more, reading-don
 use Rattle.bench_run.proofs.read_all.Goals as goal
 
 pub loop-pieces-init : goal.loop-pieces-init
-loop-pieces-init c = reading-start c.requires c.none-read.ensures.counts c.none-written.ensures
+loop-pieces-init c = reading-start c.requires.begun c.requires.disk_value c.none-read.ensures.counts c.none-written.ensures
 
 pub returns-then-not-reads_on : goal.returns-then-not-reads_on
 returns-then-not-reads_on c =

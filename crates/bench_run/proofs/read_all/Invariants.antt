@@ -3,4 +3,4 @@ use Rattle.bench_run.proofs.Laws.Whole.{Reading}
 use Rattle.bench_run.proofs.read_all.Given as goal
 
 abbrev pub invariant-loop-pieces : goal.invariant-loop-pieces
-invariant-loop-pieces l = Reading l.run l.read l.written l.pieces
+invariant-loop-pieces l = Reading l.run l.disk l.read l.written l.pieces

@@ -14,6 +14,7 @@ use Rattle.bitops.proofs.Laws.Compare.{eqb-or}
 use Rattle.bitops.proofs.Laws.Overwrite.{Overwritten, overwritten-at, overwritten-step, overwritten-all}
 use Rattle.touches.specs.Left.{differ, word_left, all_left, TouchedTaken}
 use Rattle.touches.proofs.Laws.Differ.{length-differ, get_or-differ}
+use Rattle.touches.proofs.Laws.Words.{not_left}
 
 -- the touched blocks of these words are taken, and `wrong` has those that weren't left
 pub record Taking (old touched left : List ℕ) (wrong k : ℕ) : Type 0 where
@@ -39,11 +40,13 @@ module _ (old sam tam left : List ℕ) (wrong k : ℕ)
 
   -- one word more
   pub taking_more : k < bitmap_words
+      → get_or left k 0 < 2 ^ word_bits
+      → bit_xor (get_or tam k 0) (get_or sam k 0) < 2 ^ word_bits
       → Taking old touched (set left k (bit_xor (get_or left k 0) (bit_xor (get_or tam k 0) (get_or sam k 0))))
-      (bit_or wrong (bit_and (bit_xor (get_or tam k 0) (get_or sam k 0)) (2 ^ word_bits - 1 - get_or left k 0)))
+      (bit_or wrong (bit_and (bit_xor (get_or tam k 0) (get_or sam k 0)) (bit_xor (get_or left k 0) (bit_xor (get_or tam k 0) (get_or sam k 0)))))
       (k + 1)
   unfolding all_below
-  taking_more h =
+  taking_more h left_small touched_small =
       let next : get_or left k 0 ≡ get_or old k 0 = overwritten-at k (differ old touched) old left (omega (arith, left-size)) (omega arith) so.written in
       let touches : bit_xor (get_or tam k 0) (get_or sam k 0) ≡ get_or touched k 0 = sym (get_or-differ tam sam k (so_sam ∙ sym so_tam)) in
       record {
@@ -52,7 +55,7 @@ module _ (old sam tam left : List ℕ) (wrong k : ℕ)
             rw (next, touches, ← get_or-differ old touched k (touched-size ∙ sym so_old))
             (overwritten-step k (differ old touched) old left (omega (arith, left-size)) (omega arith) so.written);
         found =
-            rw (next, touches)
+            rw (not_left (get_or left k 0) (bit_xor (get_or tam k 0) (get_or sam k 0)) left_small touched_small, next, touches)
             (eqb-or wrong (bit_and (get_or touched k 0) (2 ^ word_bits - 1 - get_or old k 0))
             ∙ and_comm (eqb wrong 0) (word_left old touched k)
             ∙ ap (λ (t : Bool). word_left old touched k && t) so.found

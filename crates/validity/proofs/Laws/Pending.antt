@@ -21,6 +21,7 @@ use Rattle.model.proofs.Laws.Commit.Changes.{changes_from-length}
 use Rattle.model.proofs.Laws.Commit.CommittedTam.{entries-tam}
 use Rattle.model.proofs.Laws.Works.Pending.{precommitted-active, commit-due as due_is}
 use Rattle.validity.specs.Checked.{bare}
+use Rattle.validity.specs.Pending.{changed_words, commit_valid}
 
 -- no more words change than there are
 pub changed_most : (old new : List ℕ) → IsBitmap old → length (changes old new) ≤ bitmap_words
@@ -33,27 +34,25 @@ same-due true zero due commit e = refl
 same-due false zero due commit e = refl
 same-due precommitted (suc d) due commit e = ap (λ (n : ℕ). precommitted && leb 1 (suc d) && eqb due n) (sym (e (omega arith)))
 
--- d: the words at which a slot's bitmap differs from SAM
-abbrev pub changed_words : Memory → ℕ → ℕ
-changed_words memory s = length (changes memory.sam.words (slot_at memory s).tam.words)
-
 module _ (memory : Memory) (s done due : ℕ) where
   -- what a precommitted slot's commit changes is seen by the slot's bitmap alone
   entries-bare : valid (bare memory) ≡ true → IsBitmap (slot_at memory s).tam.words → is_precommitted (slot_at memory s).state ≡ true
-      → changed_of memory s ≡ changed_words memory s
-  unfolding changed_of entries_of committed_sam
+      → changed_of memory s ≡ changed_words memory.sam.words (slot_at memory s).tam.words
+  unfolding changed_of entries_of committed_sam changed_words
   entries-bare maps is e = ap length (entries-tam (bare memory) s (valid-parts (bare memory) maps) is (precommitted-active (slot_at memory s).state e))
 
   -- a commit's test
   pub commit_by_tam : valid (bare memory) ≡ true → IsBitmap (slot_at memory s).tam.words
       → pending_valid memory (Pending.Commit s done due)
-      ≡ (is_precommitted (slot_at memory s).state && leb 1 (changed_words memory s) && eqb due (stores_for (changed_words memory s)) && ltb done due)
-  unfolding pending_valid
+      ≡ commit_valid (slot_at memory s).state memory.sam.words (slot_at memory s).tam.words done due
+  unfolding pending_valid commit_valid
   commit_by_tam maps is = go (is_precommitted (slot_at memory s).state) refl
     where
+      d : ℕ
+      d = changed_words memory.sam.words (slot_at memory s).tam.words
+
       go : (t : Bool) → is_precommitted (slot_at memory s).state ≡ t
-          → (t && leb 1 (changed_of memory s) && eqb due (commit_due memory s) && ltb done due)
-          ≡ (t && leb 1 (changed_words memory s) && eqb due (stores_for (changed_words memory s)) && ltb done due)
+          → (t && leb 1 (changed_of memory s) && eqb due (commit_due memory s) && ltb done due) ≡ (t && leb 1 d && eqb due (stores_for d) && ltb done due)
       go false e = refl
       go true e =
           ap (λ (t : Bool). t && ltb done due) (sym (same-due true (changed_of memory s) due (commit_due memory s) (due_is memory s)))

@@ -26,6 +26,7 @@ use Rattle.model.proofs.Laws.Memory.Valid.{ReservesFit, valid-parts, parts-valid
 use Rattle.model.proofs.Laws.Memory.Fit.{took-is, none-fits}
 use Rattle.model.proofs.Laws.Touched.Touches.{reserves-valid, pending_fits}
 use Rattle.validity.specs.Checked.{bare}
+use Rattle.validity.specs.Fit.{drawn_fits_at, drawn_fits}
 use Rattle.model_types.specs.Shape.{HasShape}
 use Rattle.validity.proofs.Laws.Slots.{bool-ext, not-true-false}
 
@@ -44,27 +45,33 @@ module _ (memory : Memory) where
       (from-same _ (took memory (slot_at memory s)) memory.blocks 0
       (λ b l h. and_comm (not (sam_bit memory b)) (bit (slot_at memory s).tam.words b) ∙ sym (took-is memory (slot_at memory s) b)))
 
+  -- so what is drawn fits in whole bitmaps just if it fits in the volume
+  pub drawn_whole : valid (bare memory) ≡ true → drawn_fits memory.sam.words memory.slots memory.reserves ≡ drawn_fit memory
+  unfolding drawn_fits drawn_fit
+  drawn_whole maps =
+      bool-ext _ _
+      (λ h. all_below-all slot_count _ (λ s l. ap (leb (reserve_at memory s).drawn) (sym (taken-whole maps s)) ∙ all_below-at slot_count _ s h l))
+      (λ h. all_below-all slot_count _ (λ s l. ap (leb (reserve_at memory s).drawn) (taken-whole maps s) ∙ all_below-at slot_count _ s h l))
+
   -- whether slot s has drawn no more than it took
-  abbrev pub drawn_at : ℕ → Bool
-  drawn_at s = leb (reserve_at memory s).drawn (length (taken_blocks memory s))
+  abbrev drawn_at : ℕ → Bool
+  drawn_at = drawn_fits_at memory.sam.words memory.slots memory.reserves
 
-  module _ (s : ℕ) (tally : ℕ) (e : Slot) (d : Reserve) (shape : HasShape memory) (below : s < slot_count) (maps : valid (bare memory) ≡ true)
+  module _ (s : ℕ) (tally : ℕ) (e : Slot) (d : Reserve) (shape : HasShape memory) (below : s < slot_count)
       (counted : tally ≡ length (allocating_blocks max_blocks memory.sam.words (get_or memory.slots s e).tam.words)) where
-    taken-is : tally ≡ length (taken_blocks memory s)
-    taken-is = rw (get_or_default memory.slots s e idle_slot (omega (arith, shape.slots))) at counted ∙ taken-whole maps s
+    taken-is : tally ≡ length (allocating_blocks max_blocks memory.sam.words (slot_at memory s).tam.words)
+    taken-is = rw (get_or_default memory.slots s e idle_slot (omega (arith, shape.slots))) at counted
 
-    pub drew_more : tally < (get_or memory.reserves s d).drawn → false ≡ drawn_fit memory
-    unfolding drawn_fit
+    drawn-is : (get_or memory.reserves s d).drawn ≡ (reserve_at memory s).drawn
+    drawn-is = ap (λ (r : Reserve). r.drawn) (get_or_default memory.reserves s d no_reserve (omega (arith, shape.reserves)))
+
+    pub drew_more : tally < (get_or memory.reserves s d).drawn → false ≡ drawn_fits memory.sam.words memory.slots memory.reserves
+    unfolding drawn_fits
     drew_more h =
-        not-true-false _
-        (λ fit.
-        let reserve : get_or memory.reserves s d ≡ reserve_at memory s = get_or_default memory.reserves s d no_reserve (omega (arith, shape.reserves)) in
-        omega (arith, leb-true _ _ (all_below-at slot_count drawn_at s fit below), taken-is, ap (λ (r : Reserve). r.drawn) reserve, h))
+        not-true-false _ (λ fit. omega (arith, leb-true _ _ (all_below-at slot_count drawn_at s fit below), taken-is, drawn-is, h))
 
     pub drew_enough : (get_or memory.reserves s d).drawn ≤ tally → drawn_at s ≡ true
-    drew_enough h =
-        let reserve : get_or memory.reserves s d ≡ reserve_at memory s = get_or_default memory.reserves s d no_reserve (omega (arith, shape.reserves)) in
-        le-leb (reserve_at memory s).drawn (length (taken_blocks memory s)) (omega (arith, taken-is, ap (λ (r : Reserve). r.drawn) reserve, h))
+    drew_enough h = le-leb (reserve_at memory s).drawn _ (omega (arith, taken-is, drawn-is, h))
 
   -- a slot that has drawn nothing
   pub drew_none : (s : ℕ) (d : Reserve) → HasShape memory → s < slot_count → (get_or memory.reserves s d).drawn ≡ 0 → drawn_at s ≡ true
@@ -72,8 +79,8 @@ module _ (memory : Memory) where
       let reserve : get_or memory.reserves s d ≡ reserve_at memory s = get_or_default memory.reserves s d no_reserve (omega (arith, shape.reserves)) in
       le-leb (reserve_at memory s).drawn _ (omega (arith, ap (λ (r : Reserve). r.drawn) reserve, h))
 
-  pub drawn_all : ((s : ℕ) → s < slot_count → drawn_at s ≡ true) → true ≡ drawn_fit memory
-  unfolding drawn_fit
+  pub drawn_all : ((s : ℕ) → s < slot_count → drawn_at s ≡ true) → true ≡ drawn_fits memory.sam.words memory.slots memory.reserves
+  unfolding drawn_fits
   drawn_all each = sym (all_below-all slot_count drawn_at each)
 
   -- what fits doesn't go by the pending work

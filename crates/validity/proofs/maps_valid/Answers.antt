@@ -15,12 +15,12 @@ pub returns-then-not-volume_valid : goal.returns-then-not-volume_valid
 returns-then-not-volume_valid c = volume-wrong (bare c.args.memory.now) (sym c.if-not-volume_valid.ensures)
 
 pub loop-slot-init : goal.loop-slot-init
-loop-slot-init c = rw c.differences.ensures (passed_none (bare c.args.memory.now) (bare-shaped c.requires))
+loop-slot-init c = rw c.differences.ensures (passed_none (bare c.args.memory.now) (bare-shaped c.shaped.ensures))
 
 pub returns-then-not-fits : goal.returns-then-not-fits
 returns-then-not-fits c =
-    slot-wrong (bare c.args.memory.now) (bare-shaped c.requires) c.loop-slot.slot-index c.loop-slot.left c.if-is_active.left c.loop-slot.invariant
-    (taken-same (get_or_default c.args.memory.now.slots c.loop-slot.slot-index _ idle_slot (omega (arith, c.requires.slots))) c.if-not-fits.true
+    slot-wrong (bare c.args.memory.now) (bare-shaped c.shaped.ensures) c.loop-slot.slot-index c.loop-slot.left c.if-is_active.left c.loop-slot.invariant
+    (taken-same (get_or_default c.args.memory.now.slots c.loop-slot.slot-index _ idle_slot (omega (arith, c.shaped.ensures.slots))) c.if-not-fits.true
     (elim c.if-is_active.branch [
       | then-is_active w ↦ active-taken (sym w.if-is_active.ensures) (record { answer = cc; rest = cc })
       | else-is_active w ↦ idle-taken (sym w.if-is_active.ensures) (record { answer = cc; rest = cc })
@@ -28,8 +28,8 @@ returns-then-not-fits c =
 
 pub loop-slot-preserved : goal.loop-slot-preserved
 loop-slot-preserved c =
-    passed-more (bare c.args.memory.now) c.loop-slot.slot-index c.loop-slot.left c.if-is_active.left (bare-shaped c.requires) (omega arith) c.loop-slot.invariant
-    (taken-same (get_or_default c.args.memory.now.slots c.loop-slot.slot-index _ idle_slot (omega (arith, c.requires.slots))) c.if-not-fits.false
+    passed-more (bare c.args.memory.now) c.loop-slot.slot-index c.loop-slot.left c.if-is_active.left (bare-shaped c.shaped.ensures) (omega arith) c.loop-slot.invariant
+    (taken-same (get_or_default c.args.memory.now.slots c.loop-slot.slot-index _ idle_slot (omega (arith, c.shaped.ensures.slots))) c.if-not-fits.false
     (elim c.if-is_active.branch [
       | then-is_active w ↦ active-taken (sym w.if-is_active.ensures) (record { answer = cc; rest = cc })
       | else-is_active w ↦ idle-taken (sym w.if-is_active.ensures) (record { answer = cc; rest = cc })
@@ -38,4 +38,4 @@ loop-slot-preserved c =
 pub returns : goal.returns
 returns c =
     let all : c.loop-slot.slot-index ≡ slot_count = omega (arith, c.loop-slot.invariant.few, c.loop-slot-test.false) in
-    left-decides (bare c.args.memory.now) (bare-shaped c.requires) c.loop-slot.left _ refl refl (sym c.if-not-volume_valid.ensures) (rw all at c.loop-slot.invariant) cc
+    left-decides (bare c.args.memory.now) (bare-shaped c.shaped.ensures) c.loop-slot.left _ refl refl (sym c.if-not-volume_valid.ensures) (rw all at c.loop-slot.invariant) cc

@@ -1,0 +1,2 @@
+-- What is lent of the words that are kept.
+pub mod Lent
