@@ -75,7 +75,6 @@ fn apart<F: FnOnce() -> u32>(call: F) -> u32
 }
 
 // Makes the call twice, each apart, and returns a number made of both answers, since the compiler leaves out what nobody looks at.
-// No loop makes it: there it would have one place.
 pub(crate) fn make_twice(call: Call, slot: u32, n: u32) -> u32 {
     let mut disk = disk_for(call);
     let mut list = [0u32; 64];
@@ -85,7 +84,7 @@ pub(crate) fn make_twice(call: Call, slot: u32, n: u32) -> u32 {
     let m = &mut memory;
     match call {
         Call::Format => apart(|| number(format(disk, n))) | apart(|| number(format(disk, n))),
-        // Not apart: what it gives would be counted too. It is large enough to stay a function.
+        // Not apart: what it gives would be counted too. Made in two places, large as it is, it stays a function.
         Call::Open => number(open(disk).answer) | number(open(disk).answer),
         Call::Start => apart(|| number(start(m, slot))) | apart(|| number(start(m, slot))),
         Call::Allocate => {

@@ -1,6 +1,5 @@
-// Each call in a function of its own, so that `make speed` can measure what it takes of the stack (docs/SPEED.md): one that the
-// compiler may not put into its caller. The bytes of standard input say which call is made, its slot, and its number of blocks, or
-// its block.
+// Each call as a function of its own, so that `make speed` can measure what it takes of the stack (docs/SPEED.md). The bytes of
+// standard input say which call is made, its slot, and its number of blocks, or its block.
 #![tactic(auto)]
 
 mod made;
